@@ -1,0 +1,5 @@
+pub mod Weights
+pub mod Exactly
+pub mod Laws
+pub mod Once
+pub mod Examples

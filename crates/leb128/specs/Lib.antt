@@ -1,0 +1,3 @@
+pub mod Leb
+pub mod Rules
+pub mod Answers

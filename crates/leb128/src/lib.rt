@@ -1,0 +1,141 @@
+// LEB128 numbers: at most five bytes, seven bits each, the lowest first.
+// `s` ends where the data section ends, `item` is the place of the item that the number is read for.
+use refusal::Refusal;
+ghost use mathlib.Core.Path.{_≡_};
+ghost use Rattle.leb128.specs.Leb.{ulebAt, slebAt, plusOneAt, weighedAt};
+ghost use Rattle.leb128.specs.Answers.{weighed-outcome, leb-outcome, signed-outcome, plus-one-outcome};
+
+// The low seven bits of one to five bytes joined, and 128 to the count of the bytes.
+pub enum Weighed {
+    Got { value: u64, scale: u64, next: usize },
+    Refused(Refusal),
+}
+
+pub enum Leb {
+    Got { value: u32, next: usize },
+    Refused(Refusal),
+}
+
+pub enum SignedLeb {
+    Got { value: i32, next: usize },
+    Refused(Refusal),
+}
+
+pub enum PlusOne {
+    Got { value: u32, next: usize },
+    Absent { next: usize },
+    Refused(Refusal),
+}
+
+// The bytes of a number: 9 where the data ends before their last, 10 where the fifth is not the last.
+fn weigh(s: &[u8], at: usize, item: usize) -> Weighed
+    ensures { λ r. ⌜ weighed-outcome r ≡ weighedAt (now (s .entry)) item at ⌝ }
+{
+    let mut p = at;
+    let mut value: u64 = 0;
+    let mut scale: u64 = 1;
+    let mut left: u32 = 5;
+    while 0 < left {
+        if s.len() <= p {
+            return Weighed::Refused(Refusal {
+                number: 9,
+                place: item,
+            });
+        }
+        let b = s[p] as u64;
+        let low = b % 128;
+        p += 1;
+        if b < 128 {
+            return Weighed::Got {
+                value: value + scale * low,
+                scale: scale * 128,
+                next: p,
+            };
+        }
+        value += scale * low;
+        scale *= 128;
+        left -= 1;
+    }
+    Weighed::Refused(Refusal {
+        number: 10,
+        place: item,
+    })
+}
+
+// An unsigned number.
+pub fn uleb(s: &[u8], at: usize, item: usize) -> Leb
+    ensures { λ r. ⌜ leb-outcome r ≡ ulebAt (now (s .entry)) item at ⌝ }
+{
+    match weigh(s, at, item) {
+        Weighed::Refused(r) => Leb::Refused(r),
+        Weighed::Got {
+            value,
+            scale: _,
+            next,
+        } => {
+            if value < 4294967296 {
+                return Leb::Got {
+                    value: value as u32,
+                    next,
+                };
+            }
+            Leb::Refused(Refusal {
+                number: 10,
+                place: item,
+            })
+        }
+    }
+}
+
+// A signed number: what was read, less the scale where the highest bit read is set.
+pub fn sleb(s: &[u8], at: usize, item: usize) -> SignedLeb
+    ensures { λ r. ⌜ signed-outcome r ≡ slebAt (now (s .entry)) item at ⌝ }
+{
+    match weigh(s, at, item) {
+        Weighed::Refused(r) => SignedLeb::Refused(r),
+        Weighed::Got { value, scale, next } => {
+            if 2 * value < scale {
+                if value < 2147483648 {
+                    return SignedLeb::Got {
+                        value: value as i32,
+                        next,
+                    };
+                }
+                return SignedLeb::Refused(Refusal {
+                    number: 10,
+                    place: item,
+                });
+            }
+            let below = scale - value;
+            if below <= 2147483648 {
+                let low = (below - 1) as i32;
+                return SignedLeb::Got {
+                    value: -1 - low,
+                    next,
+                };
+            }
+            SignedLeb::Refused(Refusal {
+                number: 10,
+                place: item,
+            })
+        }
+    }
+}
+
+// A plus-one number: none when 0, otherwise one less.
+pub fn uleb_p1(s: &[u8], at: usize, item: usize) -> PlusOne
+    ensures { λ r. ⌜ plus-one-outcome r ≡ plusOneAt (now (s .entry)) item at ⌝ }
+{
+    match uleb(s, at, item) {
+        Leb::Refused(r) => PlusOne::Refused(r),
+        Leb::Got { value, next } => {
+            if 0 < value {
+                return PlusOne::Got {
+                    value: value - 1,
+                    next,
+                };
+            }
+            PlusOne::Absent { next }
+        }
+    }
+}
