@@ -59,12 +59,19 @@ passes-by n p e m h = passes n p (sym e ∙ m) h
 pub fails-by : {A : Type 0} {test t : Bool} {n p : ℕ} (rest : Outcome A) → t ≡ test → t ≡ false → refused (record { number = n; place = p }) ≡ given test n p rest
 fails-by rest e m = fails rest (sym e ∙ m)
 
--- one of two readings, by a test
-pub picks : {A : Type 0} {test : Bool} {y a : Outcome A} (b : Outcome A) → test ≡ true → y ≡ a → y ≡ cond test a b
-picks b t h = rw t h
+-- one of two, by a test, and by a test that a function was asked
+module _ {A : Type 0} {test : Bool} {y : A} (a b : A) where
+  pub picks : test ≡ true → y ≡ a → y ≡ cond test a b
+  picks t h = rw t h
 
-pub leaves : {A : Type 0} {test : Bool} {y b : Outcome A} (a : Outcome A) → test ≡ false → y ≡ b → y ≡ cond test a b
-leaves a t h = rw t h
+  pub leaves : test ≡ false → y ≡ b → y ≡ cond test a b
+  leaves t h = rw t h
+
+  pub picks-by : {t : Bool} → t ≡ test → t ≡ true → y ≡ a → y ≡ cond test a b
+  picks-by e m h = picks (sym e ∙ m) h
+
+  pub leaves-by : {t : Bool} → t ≡ test → t ≡ false → y ≡ b → y ≡ cond test a b
+  leaves-by e m h = leaves (sym e ∙ m) h
 
 -- an offset of 0 means absent
 pub absent-there : {A : Type 0} {n : ℕ} (o : Outcome A) → n ≤ 0 → answer none ≡ present n o
@@ -80,7 +87,7 @@ present-there {n = suc n} o p h = h
 -- what closes a return after tests, and what takes a call's answer on (with `said` for each answer enum)
 pub ruleset tests = (passes, fails, passes-on, fails-on, picks, leaves, absent-there, present-there, lt-ltb, le-ltb, le-leb, lt-leb, eq-eqb, ne-eqb)
 
-pub ruleset calls = (stops, goes, passes-by, fails-by)
+pub ruleset calls = (stops, goes, passes-by, fails-by, picks-by, leaves-by)
 
 -- A loop over `repeat`: the whole reading is the reading from here.
 pub record Walk {S : Type 0} (whole : Outcome S) (step : S → Outcome S) (left : ℕ) (s : S) : Type 0 where

@@ -1,0 +1,40 @@
+use Rattle.header.proofs.Laws.{own-laws as laws}
+use Rattle.header.specs.Header.{headerAt}
+use Rattle.header.proofs.header_of.Statement.{statement}
+use Rattle.header.proofs.header_of.Tie as tie
+use Rattle.header.proofs.header_of.Reads as reads
+use Rattle.header.proofs.header_of.Lts as lts
+use Rattle.header.proofs.is_four.Reads as is-four-reads
+use Rattle.header.proofs.versioned.Reads as versioned-reads
+
+-- src/lib.rt:317:9
+returns : tie.Need-returns
+unfolding headerAt
+returns c = search laws depth 7
+
+-- src/lib.rt:323:9
+returns-2 : tie.Need-returns-2
+unfolding headerAt
+returns-2 c = search laws depth 7
+
+-- src/lib.rt:328:8
+is-four-requires : tie.Need-is-four-requires
+is-four-requires c κs = search laws depth 7
+
+-- src/lib.rt:329:9
+versioned-requires : tie.Need-versioned-requires
+versioned-requires c κs = search laws depth 7
+
+-- src/lib.rt:329:9
+returns-3 : tie.Need-returns-3
+unfolding headerAt
+returns-3 c = search laws depth 7
+
+-- src/lib.rt:313:1
+returns-4 : tie.Need-returns-4
+unfolding headerAt
+returns-4 c = search laws depth 7
+
+pub header-of-spec : {M : Type 1} → statement M
+header-of-spec =
+    tie.close (tie.spec returns returns-2 is-four-requires versioned-requires returns-3 returns-4)

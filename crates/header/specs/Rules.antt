@@ -1,0 +1,60 @@
+-- The header as a rule: what stands where, with no order of tests.
+use Prim.Native.Nat.{ℕ, _+_, _*_, _%_, _≤_, _<_}
+use mathlib.Core.Path.{_≡_}
+use mathlib.Core.List.{List}
+use lib.ListN.{length, getD}
+use Rattle.word.specs.Words.{u32At}
+use Rattle.word.specs.declared.Endian.{Endian}
+use Rattle.word.specs.declared.Endian.the-variants.{Little, Big}
+use Rattle.header.specs.declared.Table.{Table}
+use Rattle.header.specs.declared.Header.{Header}
+use Rattle.header.specs.declared.Shape.{Shape}
+use Rattle.header.specs.Header.{versionAt, strings-shape, types-shape, protos-shape, fields-shape, methods-shape, classes-shape}
+
+-- these four bytes stand at p
+pub record Four (f : List ℕ) (p a b c d : ℕ) : Type 0 where
+  pub first : getD f p 0 ≡ a
+  pub second : getD f (p + 1) 0 ≡ b
+  pub third : getD f (p + 2) 0 ≡ c
+  pub fourth : getD f (p + 3) 0 ≡ d
+
+-- the endian tag
+abbrev pub Tagged : List ℕ → Endian → Type 0
+Tagged f Little = Four f 40 0x78 0x56 0x34 0x12
+Tagged f Big = Four f 40 0x12 0x34 0x56 0x78
+
+-- where a table of so many records may lie in a file of len bytes
+pub record TableRule (len : ℕ) (shape : Shape) (t : Table) : Type 0 where
+  pub none-at-0 : t .count ≡ 0 → t .offset ≡ 0
+  pub after-header : 0 < t .count → 112 ≤ t .offset
+  pub multiple : 0 < t .count → t .offset % 4 ≡ 0
+  pub inside : 0 < t .count → t .offset + shape .width * t .count ≤ len
+  pub few : 0 < t .count → t .count ≤ shape .most
+
+-- the table whose count and offset stand at p of the header
+pub record TableAt (f : List ℕ) (o : Endian) (shape : Shape) (p : ℕ) (t : Table) : Type 0 where
+  pub count : u32At o f p ≡ t .count
+  pub offset : u32At o f (p + 4) ≡ t .offset
+  pub rule : TableRule (length f) shape t
+
+pub record HeaderRule (f : List ℕ) (h : Header) : Type 0 where
+  pub long : 112 ≤ length f
+  pub short : length f ≤ 67108864
+  pub magic : Four f 0 0x64 0x65 0x78 0x0a
+  pub version : versionAt f ≡ h .version
+  pub known : 0 < h .version
+  pub tag : Tagged f (h .order)
+  pub header-size : u32At (h .order) f 36 ≡ 112
+  pub file-size : u32At (h .order) f 32 ≡ length f
+  pub checksum : u32At (h .order) f 8 ≡ h .checksum
+  pub map : u32At (h .order) f 52 ≡ h .map
+  pub strings : TableAt f (h .order) strings-shape 56 (h .strings)
+  pub types : TableAt f (h .order) types-shape 64 (h .types)
+  pub protos : TableAt f (h .order) protos-shape 72 (h .protos)
+  pub fields : TableAt f (h .order) fields-shape 80 (h .fields)
+  pub methods : TableAt f (h .order) methods-shape 88 (h .methods)
+  pub classes : TableAt f (h .order) classes-shape 96 (h .classes)
+  pub start : u32At (h .order) f 108 ≡ h .start
+  pub end : u32At (h .order) f 108 + u32At (h .order) f 104 ≡ h .end
+  pub section-after : 112 ≤ h .start
+  pub section-inside : h .end ≤ length f
