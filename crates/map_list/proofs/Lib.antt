@@ -1,0 +1,4 @@
+pub mod Codes
+pub mod Exactly
+pub mod Laws
+pub mod Once

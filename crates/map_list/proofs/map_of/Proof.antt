@@ -1,0 +1,32 @@
+use Rattle.map_list.proofs.Laws.{list-laws as laws}
+use Rattle.map_list.proofs.map_of.Statement.{statement}
+use Rattle.map_list.proofs.map_of.Tie as tie
+use Rattle.map_list.proofs.map_of.Reads as reads
+use Rattle.map_list.proofs.map_of.Lts as lts
+use Rattle.frame.proofs.is_allowed.Reads as is-allowed-reads
+use Rattle.header.proofs.section_of.Reads as section-of-reads
+use Rattle.map_list.proofs.list_at.Reads as list-at-reads
+
+-- src/lib.rt:233:9
+section-of-requires : tie.Need-section-of-requires
+section-of-requires c κs = search laws
+
+-- src/lib.rt:234:8
+is-allowed-requires : tie.Need-is-allowed-requires
+is-allowed-requires c κs = search laws
+
+-- src/lib.rt:235:9
+list-at-requires : tie.Need-list-at-requires
+list-at-requires c κs = search laws
+
+-- src/lib.rt:235:9
+returns : tie.Need-returns
+returns c = search laws
+
+-- src/lib.rt:229:1
+returns-2 : tie.Need-returns-2
+returns-2 c = search laws
+
+pub map-of-spec : {M : Type 1} → statement M
+map-of-spec =
+    tie.close (tie.spec section-of-requires is-allowed-requires list-at-requires returns returns-2)

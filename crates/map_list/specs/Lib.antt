@@ -1,0 +1,4 @@
+pub mod Codes
+pub mod Map
+pub mod Answers
+pub mod Rules
