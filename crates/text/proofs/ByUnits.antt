@@ -1,4 +1,4 @@
--- The order of two texts' bytes, c0 counted as 0, is the order of their units; and equal bytes are equal units.
+-- The order of two texts' bytes by their keys is the order of their units; and equal bytes are equal units.
 -- Assumes nothing.
 use Prim.Native.Nat.{ℕ, _+_, _<_, _≤_}
 use mathlib.Core.Path.{_≡_, refl, ap, sym, _∙_}
@@ -10,7 +10,8 @@ use borrow.Author.Tests.{ltb-true, ltb-false, lt-ltb}
 use native.Mathlib.Omega.{arith}
 use Rattle.refusal.specs.Exact.{Decides}
 use Rattle.text.specs.Units.{form, encode}
-use Rattle.text.specs.Rules.{Units}
+use Rattle.text.specs.Text.{Text}
+use Rattle.text.specs.Rules.{Units, StringRule}
 use Rattle.text.specs.Order.{compared, key, keys, byKey, isEqual}
 use Rattle.text.specs.declared.Order.{Order}
 use Rattle.text.specs.declared.Order.the-variants.{Less, Equal, Greater}
@@ -92,8 +93,8 @@ two-high {u} t h = go (t .shortest)
     go (inl p) = p
     go (inr p) = absurd (omega arith)
 
-lower-zero : (a b : ℕ) (m n : List ℕ) → a ≡ 0xc0 → 0 < b → (b ≡ 0xc0 → ⊥) → byKey (a ∷ m) (b ∷ n) ≡ Less
-lower-zero a b m n e p q = lower-first a b m n (omega (arith, key-zero a e, key-other b q))
+lower-zero : (a b : ℕ) (m n : List ℕ) → a ≡ 0xc0 → (b ≡ 0xc0 → ⊥) → byKey (a ∷ m) (b ∷ n) ≡ Less
+lower-zero a b m n e q = lower-first a b m n (omega (arith, key-zero a e, key-other b q))
 
 module _ (x y : List ℕ) where
   lower-two : {u v a b c d : ℕ} → Two u a b → Two v c d → u < v → byKey (a ∷ b ∷ x) (c ∷ d ∷ y) ≡ Less
@@ -103,7 +104,7 @@ module _ (x y : List ℕ) where
       go (inl w) big =
           by-byte a c (b ∷ x) (d ∷ y) (λ e. omega arith) (λ e. omega arith) (omega arith)
           (λ e. by-byte b d x y (λ f. omega arith) (λ f. omega arith) (omega arith) (λ f. absurd (omega arith)))
-      go (inr w) big = lower-zero a c (b ∷ x) (d ∷ y) (omega arith) (omega arith) (λ e. omega arith)
+      go (inr w) big = lower-zero a c (b ∷ x) (d ∷ y) (omega arith) (λ e. omega arith)
 
   lower-three : {u v a b c d e f : ℕ} → Three u a b c → Three v d e f → u < v → byKey (a ∷ b ∷ c ∷ x) (d ∷ e ∷ f ∷ y) ≡ Less
   lower-three {u} {v} {a} {b} {c} {d} {e} {f} s t h =
@@ -119,7 +120,7 @@ module _ (x y : List ℕ) where
     where
       go : (0x80 ≤ u) ⊎ (u ≡ 0) → byKey (a ∷ b ∷ x) (v ∷ y) ≡ Less
       go (inl w) = absurd (omega arith)
-      go (inr w) = lower-zero a v (b ∷ x) y (omega arith) p (λ e. omega arith)
+      go (inr w) = lower-zero a v (b ∷ x) y (omega arith) (λ e. omega arith)
   lower (in-two s) (in-two t) h = lower-two s t h
   lower {u} {v} (in-two {a = a} {b = b} s) (in-three {a = c} {b = d} {c = e} t) h = lower-first a c (b ∷ x) (d ∷ e ∷ y) (omega (arith, key-most a, key-other c (λ z. omega arith)))
   lower (in-three s) (in-one p q) h = absurd (let w = s .shortest in omega arith)
@@ -156,3 +157,13 @@ order-by-units (u ∷ us) (v ∷ vs) g h = go (order-by-units us vs (units-rest 
 pub encode-once : (us vs : List ℕ) → Units us → Units vs → (encode us ≡ encode vs) ↔ (us ≡ vs)
 encode-once us vs g h =
     (λ e. same-decides us vs .sound (ap isEqual (sym (order-by-units us vs g h)) ∙ same-bytes (encode us) (encode vs) .complete e), λ e. ap encode e)
+
+-- the same of two texts, each in a file of its own
+module _ {s r : List ℕ} {i j : ℕ} {t u : Text} (h : StringRule s i t) (k : StringRule r j u) where
+  pub order-of-texts : byKey (t .bytes) (u .bytes) ≡ compared (t .units) (u .units)
+  order-of-texts = (λ i. byKey (sym (h .bytes) i) (sym (k .bytes) i)) ∙ order-by-units (t .units) (u .units) (h .units) (k .units)
+
+  pub texts-once : (t .bytes ≡ u .bytes) ↔ (t .units ≡ u .units)
+  texts-once =
+      let both = encode-once (t .units) (u .units) (h .units) (k .units) in
+      (λ e. both .0 (h .bytes ∙ e ∙ sym (k .bytes)), λ e. sym (h .bytes) ∙ both .1 e ∙ k .bytes)

@@ -12,9 +12,6 @@ use borrow.Author.Tests.{ltb-false, eqb-true, eqb-false, lt-ltb, le-ltb, eq-eqb,
 use native.Mathlib.Numerals.{add-one}
 use native.Mathlib.Omega.{arith}
 use Rattle.text.specs.Order.{compared, key, keys, byKey, earlier}
-use Rattle.text.specs.declared.Wide.the-variants as W
-use Rattle.text.specs.declared.Count.the-variants as C
-use Rattle.text.specs.declared.TextAnswer.the-variants as T
 use Rattle.text.specs.declared.Order.{Order}
 use Rattle.text.specs.declared.Order.the-variants.{Less, Equal, Greater}
 

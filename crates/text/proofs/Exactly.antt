@@ -12,7 +12,7 @@ use Rattle.refusal.proofs.Exact.{same, answer-exact, given-exact, bind-exact, e
 use Rattle.refusal.proofs.Each.{at-below}
 use Rattle.refusal.proofs.Rows.{Stepped, until-exact}
 use Rattle.word.specs.Bytes.{stretch, Stands}
-use Rattle.word.proofs.Stands.{stands-one, stands-first, stands-join, stands-split}
+use Rattle.word.proofs.Stands.{stands-one, stands-first, stands-stretch, stands-join, stands-split}
 use Rattle.leb128.specs.Rules.{Uleb}
 use Rattle.leb128.proofs.Exactly.{uleb-exact}
 use Rattle.text.specs.Units.{form, encode}
@@ -209,11 +209,6 @@ units-exact s item p =
     enough r h = let e = h .stands .ends in let room = h .room in omega (arith, encode-long (r .item) (h .units))
 
 -- ---- the string data item
-stands-stretch : (s : List ℕ) {p q : ℕ} {l : List ℕ} → Stands s p l q → stretch s p (q - p) ≡ l
-stands-stretch s {p} {q} {l} h =
-    let n : q - p ≡ length l = let e = h .ends in omega arith in
-    ap (stretch s p) n ∙ h .bytes-there
-
 pub string-exact : (s : List ℕ) (item : ℕ) → Exact (stringAt s item) (StringRule s item)
 unfolding stringAt
 string-exact s item =

@@ -163,6 +163,7 @@ pub fn string_at(s: &[u8], item: usize) -> TextAnswer
         Leb::Got { value, next } => match count_at(s, item, next) {
             Count::Refused(r) => TextAnswer::Refused(r),
             Count::Got { units, zero } => {
+                let length = zero - next;
                 if units != value as usize {
                     return TextAnswer::Refused(Refusal {
                         number: 14,
@@ -171,7 +172,7 @@ pub fn string_at(s: &[u8], item: usize) -> TextAnswer
                 }
                 TextAnswer::Got {
                     start: next,
-                    length: zero - next,
+                    length,
                     units: units as u32,
                 }
             }

@@ -1,7 +1,7 @@
 -- Laws of `Stands`: bytes that stand at a place, taken apart and put together.
 -- Assumes nothing.
-use Prim.Native.Nat.{ℕ, _+_, _<_}
-use mathlib.Core.Path.{_≡_, refl, ap, subst}
+use Prim.Native.Nat.{ℕ, _+_, _-_, _<_}
+use mathlib.Core.Path.{_≡_, refl, ap, subst, _∙_}
 use mathlib.Core.List.{List, [], _∷_, _++_}
 use lib.ListN.{length, getD}
 use native.Mathlib.Omega.{arith}
@@ -44,3 +44,9 @@ stands-split s (b ∷ l) p {m} {r} h =
     let f = stands-first s p h in
     let rest = stands-split s l (p + 1) (f .rest) in
     (rest .0, (subst (λ (x : ℕ). Stands s p (x ∷ l) (rest .0)) (f .byte) (stands-more s p (rest .1 .0)), rest .1 .1))
+
+-- the bytes from the one place to the other
+pub stands-stretch : (s : List ℕ) {p q : ℕ} {l : List ℕ} → Stands s p l q → stretch s p (q - p) ≡ l
+stands-stretch s {p} {q} {l} h =
+    let n : q - p ≡ length l = let e = h .ends in omega arith in
+    ap (stretch s p) n ∙ h .bytes-there
