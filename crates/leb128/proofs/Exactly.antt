@@ -11,7 +11,8 @@ use native.Mathlib.Omega.{arith}
 use Rattle.refusal.specs.Rows.{Found}
 use Rattle.refusal.specs.Exact.{Exact, At, here, there}
 use Rattle.refusal.proofs.Exact.{never, same, answer-exact, given-exact, bind-exact, either-exact, exact-iff, below, at-most, one-of}
-use Rattle.word.specs.Bytes.{stretch, Stands}
+use Rattle.word.specs.Bytes.{Stands}
+use Rattle.word.proofs.Stands.{stands-one, stands-more, stands-first}
 use Rattle.leb128.specs.Leb.{bytesAt, fifth, ulebAt, slebAt, plusOneAt}
 use Rattle.leb128.specs.Rules.{Groups, Bytes, Uleb, Sleb, PlusOneRule}
 
@@ -43,29 +44,6 @@ groups-tail g = record {
   goes-on = λ m p. g .goes-on (there m) (omega arith);
   stops = λ m p. g .stops (there m) (ap suc p);
 }
-
-module _ (s : List ℕ) (p : ℕ) where
-  stands-one : p < length s → Stands s p (getD s p 0 ∷ []) (p + 1)
-  unfolding stretch
-  stands-one h = record { bytes-there = refl; ends = omega arith; inside = omega arith }
-
-  stands-more : {l : List ℕ} {q : ℕ} → Stands s (p + 1) l q → Stands s p (getD s p 0 ∷ l) q
-  unfolding stretch
-  stands-more {l} {q} h = let e = h .ends in record { bytes-there = ap (λ (x : List ℕ). getD s p 0 ∷ x) (h .bytes-there); ends = omega arith; inside = h .inside }
-
-  -- a first byte, and the rest
-  record First (b : ℕ) (l : List ℕ) (q : ℕ) : Type 0 where
-    byte : getD s p 0 ≡ b
-    room : p < length s
-    rest : Stands s (p + 1) l q
-
-  stands-first : {b : ℕ} {l : List ℕ} {q : ℕ} → Stands s p (b ∷ l) q → First b l q
-  unfolding stretch
-  stands-first {b} {l} {q} h =
-      let e = h .ends in
-      let i = h .inside in
-      let there = h .bytes-there in
-      record { byte = cc; room = omega arith; rest = record { bytes-there = cc; ends = omega arith; inside = h .inside } }
 
 bytes-exact : (n : ℕ) (s : List ℕ) (item p : ℕ) → Exact (bytesAt n s item p) (Rule n s p)
 unfolding bytesAt Rule

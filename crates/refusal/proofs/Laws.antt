@@ -60,18 +60,17 @@ pub fails-by : {A : Type 0} {test t : Bool} {n p : ℕ} (rest : Outcome A) → t
 fails-by rest e m = fails rest (sym e ∙ m)
 
 -- one of two, by a test, and by a test that a function was asked
-module _ {A : Type 0} {test : Bool} {y : A} (a b : A) where
-  pub picks : test ≡ true → y ≡ a → y ≡ cond test a b
-  picks t h = rw t h
+pub picks : {A : Type 0} {test : Bool} {y a : A} (b : A) → test ≡ true → y ≡ a → y ≡ cond test a b
+picks b t h = rw t h
 
-  pub leaves : test ≡ false → y ≡ b → y ≡ cond test a b
-  leaves t h = rw t h
+pub leaves : {A : Type 0} {test : Bool} {y b : A} (a : A) → test ≡ false → y ≡ b → y ≡ cond test a b
+leaves a t h = rw t h
 
-  pub picks-by : {t : Bool} → t ≡ test → t ≡ true → y ≡ a → y ≡ cond test a b
-  picks-by e m h = picks (sym e ∙ m) h
+pub picks-by : {A : Type 0} {test t : Bool} {y a : A} (b : A) → t ≡ test → t ≡ true → y ≡ a → y ≡ cond test a b
+picks-by b e m h = picks b (sym e ∙ m) h
 
-  pub leaves-by : {t : Bool} → t ≡ test → t ≡ false → y ≡ b → y ≡ cond test a b
-  leaves-by e m h = leaves (sym e ∙ m) h
+pub leaves-by : {A : Type 0} {test t : Bool} {y b : A} (a : A) → t ≡ test → t ≡ false → y ≡ b → y ≡ cond test a b
+leaves-by a e m h = leaves a (sym e ∙ m) h
 
 -- an offset of 0 means absent
 pub absent-there : {A : Type 0} {n : ℕ} (o : Outcome A) → n ≤ 0 → answer none ≡ present n o

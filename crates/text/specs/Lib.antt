@@ -1,0 +1,5 @@
+pub mod Units
+pub mod Text
+pub mod Rules
+pub mod Order
+pub mod Answers

@@ -1,0 +1,223 @@
+// Texts in modified UTF-8: a string data item read at a place, and the order of two texts.
+// `s` ends where the data section ends, `item` is the place of the string data item.
+use leb128::Leb;
+use refusal::Refusal;
+ghost use mathlib.Core.Path.{_≡_};
+ghost use Prim.Native.Nat.{_<_};
+ghost use lib.ListN.{length};
+ghost use Rattle.text.specs.Text.{twoAt, threeAt, wideAt, countAt, extentAt};
+ghost use Rattle.text.specs.Order.{key, earlier, byKey};
+ghost use Rattle.text.specs.Answers.{wide-outcome, count-outcome, text-outcome};
+
+// A unit whose form has two or three bytes, and the place after it.
+pub enum Wide {
+    Got { unit: u32, next: usize },
+    Refused(Refusal),
+}
+
+// How many units a text has, and the place of its zero byte.
+pub enum Count {
+    Got { units: usize, zero: usize },
+    Refused(Refusal),
+}
+
+// Where a text's bytes begin, how many there are without the zero, and how many units.
+pub enum TextAnswer {
+    Got {
+        start: usize,
+        length: usize,
+        units: u32,
+    },
+    Refused(Refusal),
+}
+
+pub enum Order {
+    Less,
+    Equal,
+    Greater,
+}
+
+// A form of two bytes: 9 where the second is not there, 14 where it does not follow or one byte is enough.
+fn two_at(s: &[u8], item: usize, p: usize) -> Wide
+    requires { ⌜ p < length (now s) ⌝ }
+    ensures { λ r. ⌜ wide-outcome r ≡ twoAt (now (s .entry)) item p ⌝ }
+{
+    if s.len() - p < 2 {
+        return Wide::Refused(Refusal {
+            number: 9,
+            place: item,
+        });
+    }
+    let a = s[p] as u32;
+    let b = s[p + 1] as u32;
+    if b / 64 != 2 {
+        return Wide::Refused(Refusal {
+            number: 14,
+            place: item,
+        });
+    }
+    let unit = a % 32 * 64 + b % 64;
+    if 0x80 <= unit {
+        return Wide::Got { unit, next: p + 2 };
+    }
+    // U+0000 is c0 80
+    if unit == 0 {
+        return Wide::Got { unit, next: p + 2 };
+    }
+    Wide::Refused(Refusal {
+        number: 14,
+        place: item,
+    })
+}
+
+// A form of three bytes: 9 where one is not there, 14 where one does not follow or two bytes are enough.
+fn three_at(s: &[u8], item: usize, p: usize) -> Wide
+    requires { ⌜ p < length (now s) ⌝ }
+    ensures { λ r. ⌜ wide-outcome r ≡ threeAt (now (s .entry)) item p ⌝ }
+{
+    if s.len() - p < 3 {
+        return Wide::Refused(Refusal {
+            number: 9,
+            place: item,
+        });
+    }
+    let a = s[p] as u32;
+    let b = s[p + 1] as u32;
+    if b / 64 != 2 {
+        return Wide::Refused(Refusal {
+            number: 14,
+            place: item,
+        });
+    }
+    let c = s[p + 2] as u32;
+    if c / 64 != 2 {
+        return Wide::Refused(Refusal {
+            number: 14,
+            place: item,
+        });
+    }
+    let unit = a % 16 * 4096 + b % 64 * 64 + c % 64;
+    if unit < 0x800 {
+        return Wide::Refused(Refusal {
+            number: 14,
+            place: item,
+        });
+    }
+    Wide::Got { unit, next: p + 3 }
+}
+
+// A form of two or three bytes, by its first.
+fn wide_at(s: &[u8], item: usize, p: usize) -> Wide
+    requires { ⌜ p < length (now s) ⌝ }
+    ensures { λ r. ⌜ wide-outcome r ≡ wideAt (now (s .entry)) item p ⌝ }
+{
+    if s[p] / 32 == 6 {
+        return two_at(s, item, p);
+    }
+    if s[p] / 16 == 14 {
+        return three_at(s, item, p);
+    }
+    Wide::Refused(Refusal {
+        number: 14,
+        place: item,
+    })
+}
+
+// The units from `start` up to the zero byte, counted. Most forms have one byte: they come first and call nothing.
+fn count_at(s: &[u8], item: usize, start: usize) -> Count
+    ensures { λ r. ⌜ count-outcome r ≡ countAt (now (s .entry)) item start ⌝ }
+{
+    let mut p = start;
+    let mut units: usize = 0;
+    while p < s.len() {
+        if s[p] < 0x80 {
+            if 0 < s[p] {
+                p += 1;
+                units += 1;
+                continue;
+            }
+            return Count::Got { units, zero: p };
+        }
+        match wide_at(s, item, p) {
+            Wide::Refused(r) => {
+                return Count::Refused(r);
+            }
+            Wide::Got { unit: _, next } => {
+                p = next;
+                units += 1;
+            }
+        }
+    }
+    Count::Refused(Refusal {
+        number: 9,
+        place: item,
+    })
+}
+
+// A string data item: its length, its units, and the length compared at the zero byte.
+pub fn string_at(s: &[u8], item: usize) -> TextAnswer
+    ensures { λ r. ⌜ text-outcome r ≡ extentAt (now (s .entry)) item ⌝ }
+{
+    match leb128::uleb(s, item, item) {
+        Leb::Refused(r) => TextAnswer::Refused(r),
+        Leb::Got { value, next } => match count_at(s, item, next) {
+            Count::Refused(r) => TextAnswer::Refused(r),
+            Count::Got { units, zero } => {
+                let length = zero - next;
+                if units != value as usize {
+                    return TextAnswer::Refused(Refusal {
+                        number: 14,
+                        place: item,
+                    });
+                }
+                TextAnswer::Got {
+                    start: next,
+                    length,
+                    units: units as u32,
+                }
+            }
+        },
+    }
+}
+
+// What a byte counts as in the order of texts: c0 before every other.
+fn key_of(b: u8) -> u32
+    ensures { λ r. ⌜ r ≡ key b ⌝ }
+{
+    if b == 0xc0 {
+        return 0;
+    }
+    b as u32 + 1
+}
+
+// Which of two bytes that differ comes first.
+fn earlier_of(a: u8, b: u8) -> Order
+    ensures { λ r. ⌜ r ≡ earlier a b ⌝ }
+{
+    let x = key_of(a);
+    let y = key_of(b);
+    if x < y {
+        return Order::Less;
+    }
+    Order::Greater
+}
+
+// The order of two texts, by their bytes: the first in which they differ decides.
+pub fn compare(a: &[u8], b: &[u8]) -> Order
+    ensures { λ r. ⌜ r ≡ byKey (now (a .entry)) (now (b .entry)) ⌝ }
+{
+    let mut i = 0;
+    while i < a.len() {
+        if b.len() <= i {
+            return Order::Greater;
+        }
+        if a[i] != b[i] {
+            return earlier_of(a[i], b[i]);
+        }
+        i += 1;
+    }
+    if i < b.len() {
+        return Order::Less;
+    }
+    Order::Equal
+}
