@@ -179,7 +179,7 @@ module _ (s : List ℕ) (j : Judge) where
           go : (o : Outcome (Found (List Entry) Scan)) → collect count (stepAt s j) (begin (j .at + 4)) ≡ o
               → ((o >>= λ (r : Found (List Entry) Scan). answer (record { entries = r .item; handles = r .next .handles })) >>= kept)
               ≡ ((o >>= λ (r : Found (List Entry) Scan). answer (r .next .handles)) >>= λ (t : Table). answer (record { count = count; handles = t }))
-          go (answer r) e = λ i. answer (record { count = counted s j count (begin (j .at + 4)) r e i; handles = r .next .handles })
+          go (answer r) e = λ i. answer (record { count = counted s j count (j .at + 4) r e i; handles = r .next .handles })
           go (refused r) e = refl
 
       pub list-by : {x c : HandlesAnswer} {y : Outcome MapList} → handles-outcome x ≡ scanAt s j (j .at + 4) count → x ≡ c
