@@ -13,7 +13,7 @@ use native.Mathlib.Omega.{arith}
 use native.Mathlib.Nat.{mul-le-mul-left, mul-le-mul-right, le-trans}
 use mir.Syntax.{w32, w64}
 use mir.Val.{Fits}
-use Rattle.refusal.specs.Outcome.{Outcome, answer, refused, _>>=_}
+use Rattle.refusal.specs.Outcome.{Outcome, refused, _>>=_}
 use Rattle.refusal.proofs.Laws.{said, tests, calls, passes, fails}
 use Rattle.word.specs.Words.{u32At}
 use Rattle.word.specs.declared.Endian.{Endian}
@@ -129,10 +129,6 @@ on-section = said section-outcome
 pub on-header : {B : Type 0} {x c : HeaderAnswer} {o : Outcome Header} {y : Outcome B} (k : Header → Outcome B) → header-outcome x ≡ o → x ≡ c → y ≡ (header-outcome c >>= k) → y ≡ (o >>= k)
 on-header = said header-outcome
 
--- a header put together by a function, j
-pub answered-by : {h j : Header} → j ≡ h → answer j ≡ answer h
-answered-by e = ap answer e
-
 -- ---- the section of a file
 pub section-short : (f : List ℕ) (h : Header) → length f < h .end → f ≡ section f h
 unfolding section
@@ -146,7 +142,7 @@ pub ruleset four-laws = (first-differs, second-differs, third-differs, by-fourth
 
 pub ruleset table-laws = (none-there, table-low, table-uneven, table-long, table-few, product-fits, end-fits, table-by, calls, tests, needs)
 
-pub ruleset own-laws = (on-order, on-table, on-three, on-section, section-by, joined-by, body-by, version-known, version-unknown, answered-by, calls, tests, needs)
+pub ruleset own-laws = (on-order, on-table, on-three, on-section, section-by, joined-by, body-by, version-known, version-unknown, calls, tests, needs)
 
 pub ruleset section-laws = (section-short, section-whole, needs)
 

@@ -8,6 +8,7 @@ use Rattle.refusal.specs.Outcome.{Outcome, answer, _>>=_, given}
 use Rattle.word.specs.Words.{u32At}
 use Rattle.word.specs.declared.Endian.{Endian}
 use Rattle.word.specs.declared.Endian.the-variants.{Little, Big}
+use Rattle.frame.specs.declared.Frame.{Frame}
 use Rattle.header.specs.declared.Table.{Table}
 use Rattle.header.specs.declared.Header.{Header}
 use Rattle.header.specs.declared.Shape.{Shape}
@@ -136,3 +137,16 @@ headerAt f =
 -- the file up to the data section's end: what data items are read from
 unfoldable pub section : List ℕ → Header → List ℕ
 section f h = take (h .end) f
+
+-- what items are read against in a file with this header and so many method handles
+abbrev pub frame-of : Header → ℕ → Frame
+frame-of h handles = record {
+  order = h .order;
+  start = h .start;
+  strings = h .strings .count;
+  types = h .types .count;
+  protos = h .protos .count;
+  fields = h .fields .count;
+  methods = h .methods .count;
+  handles = handles;
+}

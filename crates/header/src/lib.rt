@@ -1,14 +1,15 @@
 // The header of a DEX file: rules 1 to 6, in that order, at place 0.
+use frame::Frame;
 use refusal::Refusal;
 use word::Endian;
 ghost use mathlib.Core.Path.{_≡_};
-ghost use Rattle.header.specs.Header.{fourOf, four, versionAt, orderAt, tableAllowed, tableAt, threeAt, sectionAt, joined, sectionedAt, tablesAt, bodyAt, versionedAt, headerAt, section};
+ghost use Rattle.header.specs.Header.{fourOf, four, versionAt, orderAt, tableAllowed, tableAt, threeAt, sectionAt, joined, sectionedAt, tablesAt, bodyAt, versionedAt, headerAt, section, frame-of};
 ghost use Rattle.header.specs.Answers.{order-outcome, table-outcome, three-outcome, section-outcome, header-outcome};
 
 // A table: how many records, and where the first one is.
 pub struct Table {
     pub count: u32,
-    pub offset: usize,
+    pub offset: u32,
 }
 
 pub struct Header {
@@ -70,6 +71,9 @@ pub enum SectionAnswer {
     Refused(Refusal),
 }
 
+// Types and protos are named by 16 bits.
+const MOST_TYPES: u32 = 65535;
+
 // Document 01's records of 4, 4, 12, 8, 8 and 32 bytes. A count is 32 bits wide: for four of the tables that is no limit.
 const STRINGS: Shape = Shape {
     width: 4,
@@ -78,12 +82,12 @@ const STRINGS: Shape = Shape {
 
 const TYPES: Shape = Shape {
     width: 4,
-    most: 65535,
+    most: MOST_TYPES,
 };
 
 const PROTOS: Shape = Shape {
     width: 12,
-    most: 65535,
+    most: MOST_TYPES,
 };
 
 const FIELDS: Shape = Shape {
@@ -198,10 +202,7 @@ fn table_at(f: &[u8], order: Endian, shape: Shape, at: u32) -> TableAnswer
     let count = word::u32_at(f, p, order);
     let offset = word::u32_at(f, p + 4, order);
     if is_table_allowed(f.len(), shape, count, offset) {
-        return TableAnswer::Got(Table {
-            count,
-            offset: offset as usize,
-        });
+        return TableAnswer::Got(Table { count, offset });
     }
     TableAnswer::Refused(Refusal {
         number: 6,
@@ -374,4 +375,26 @@ pub fn section_of(f: &[u8], h: Header) -> &[u8]
         return f;
     }
     &f[0..end]
+}
+
+// What items are read against in a file with this header and so many method handles.
+pub fn frame_of(h: Header, handles: u32) -> Frame
+    ensures { λ r. ⌜ r ≡ frame-of h handles ⌝ }
+{
+    let order = h.order;
+    let strings = h.strings;
+    let types = h.types;
+    let protos = h.protos;
+    let fields = h.fields;
+    let methods = h.methods;
+    Frame {
+        order,
+        start: h.start,
+        strings: strings.count,
+        types: types.count,
+        protos: protos.count,
+        fields: fields.count,
+        methods: methods.count,
+        handles,
+    }
 }

@@ -2,30 +2,28 @@
 -- Assumes nothing.
 use Prim.Native.Nat.{ℕ, zero, suc, _+_, _*_, _%_, _≤_, _<_}
 use mathlib.Core.Path.{_≡_, refl, ap, sym, subst, _∙_}
-use mathlib.Core.Logic.{_⊎_, inl, inr}
 use mathlib.Core.Bool.{Bool, true, false, cond, _&&_, false≢true}
 use mathlib.Core.List.{List, [], _∷_}
-use lib.ListN.{length, getD, set, replicate, length-set, getD-replicate}
+use lib.ListN.{length, getD, set, length-set, getD-replicate}
 use lib.Seq.{getD-set-same, getD-set-other}
 use lib.Dec.{eqb, leb}
 use native.Mathlib.Omega.{arith}
 use Rattle.refusal.specs.Outcome.{answer}
 use Rattle.refusal.specs.Rows.{Found, collect}
-use Rattle.refusal.specs.Exact.{Exact, Decides, Row, empty, first, At, here, there, Each, Rising, Strict}
-use Rattle.refusal.proofs.Exact.{same, answer-exact, given-exact, bind-exact, exact-iff, below, at-most, equal, both, decided-yes, decided-no}
+use Rattle.refusal.specs.Exact.{Exact, Decides, Row, empty, first, At, here, there, Rising, Strict}
+use Rattle.refusal.proofs.Exact.{same, answer-exact, given-exact, bind-exact, exact-iff, below, at-most, equal, both, decided-yes}
 use Rattle.refusal.proofs.Rows.{collect-exact}
 use Rattle.refusal.proofs.Each.{at-below, at-same, rising-one, rising-cons, rising-tail, rising-far}
 use Rattle.word.specs.Words.{u32At}
 use Rattle.header.specs.declared.Header.{Header}
 use Rattle.header.specs.declared.Table.{Table}
 use Rattle.header.specs.Header.{section}
-use Rattle.frame.specs.Offsets.{allowed}
 use Rattle.frame.proofs.Laws.{allowed-decides}
 use Rattle.map_list.specs.declared.Entry.{Entry}
 use Rattle.map_list.specs.declared.Judge.{Judge}
 use Rattle.map_list.specs.Codes.{codes, codeOf}
 use Rattle.map_list.specs.Map.{entryAt, handlesAllowed, entryAllowed, nextAllowed, handlesOf, Scan, after-entry, judged, stepAt, begin, Map, listOf, listAt, judge-of, mapAt}
-use Rattle.map_list.specs.Rules.{HandlesRule, EntryRule, EntryAt, Lower, HandlesIn, named, unnamed, ListRule, MapRule}
+use Rattle.map_list.specs.Rules.{HandlesRule, EntryAt, Lower, HandlesIn, named, unnamed, ListRule, MapRule}
 use Rattle.map_list.proofs.Codes.{code-there, code-found}
 
 -- ---- an entry by itself

@@ -5,15 +5,14 @@ use mathlib.Core.Path.{_≡_, refl, ap, sym, subst, _∙_}
 use mathlib.Core.Bool.{Bool, true, false}
 use mathlib.Core.List.{List}
 use lib.ListN.{length, getD, set, replicate}
-use lib.Dec.{ltb, leb, eqb}
+use lib.Dec.{ltb, leb}
 use borrow.Author.Needs.{needs}
 use borrow.Author.Tests.{lt-ltb, le-ltb, le-leb, lt-leb, eq-eqb, ne-eqb}
 use native.Mathlib.Omega.{arith}
-use Rattle.refusal.specs.Outcome.{Outcome, answer, refused, _>>=_, given}
+use Rattle.refusal.specs.Outcome.{Outcome, answer, refused, _>>=_}
 use Rattle.refusal.specs.Rows.{Found, past, collect}
-use Rattle.refusal.proofs.Laws.{said, tests, calls, passes, fails, bind-answer, bind-refused}
+use Rattle.refusal.proofs.Laws.{said, calls, passes, fails, bind-answer, bind-refused}
 use Rattle.refusal.proofs.Loops.{Gather, gather-first, gather-next, gather-stop, gather-done}
-use Rattle.refusal.proofs.Rows.{bind-assoc}
 use Rattle.word.specs.Words.{u16At, u32At}
 use Rattle.word.specs.declared.Endian.{Endian}
 use Rattle.word.proofs.Laws.{u16-past, u32-past}
@@ -28,9 +27,8 @@ use Rattle.map_list.specs.declared.HandlesAnswer.{HandlesAnswer}
 use Rattle.map_list.specs.declared.MapAnswer.{MapAnswer}
 use Rattle.map_list.specs.declared.HandlesAnswer.the-variants as T
 use Rattle.map_list.specs.Codes.{codeOf}
-use Rattle.map_list.specs.Map.{entryAt, handlesAllowed, entryAllowed, nextAllowed, handlesOf, Scan, judged, stepAt, begin, Map, listOf, listAt, judge-of, mapAt, kept, scanAt, keptListAt, keptAt}
+use Rattle.map_list.specs.Map.{entryAt, entryNumber, handlesAllowed, entryAllowed, nextAllowed, handlesOf, Scan, judged, stepAt, begin, Map, listOf, listAt, judge-of, mapAt, kept, scanAt, keptListAt, keptAt}
 use Rattle.map_list.specs.Answers.{handles-outcome, map-outcome}
-use Rattle.map_list.proofs.Codes.{searching}
 use Rattle.map_list.proofs.Exactly.{counted}
 
 -- ---- the tests of an entry
@@ -98,6 +96,14 @@ module _ (o : Endian) (s : List ℕ) (p : ℕ) where
 
   pub entry-by : {k z d : ℕ} → k ≡ u16At o s p → z ≡ u32At o s (p + 4) → d ≡ u32At o s (p + 8) → record { kind = k; size = z; offset = d } ≡ entryAt o s p
   entry-by a b c = λ i. record { kind = a i; size = b i; offset = c i }
+
+pub number-past : (f : List ℕ) (h : Header) (k : ℕ) {s : List ℕ} → s ≡ section f h → length s ≤ h .map → record { kind = 0; size = 0; offset = 0 } ≡ entryNumber f h k
+unfolding entryNumber
+number-past f h k e p = rw (← e) (entry-past (h .order) _ (h .map + 4 + 12 * k) (omega arith))
+
+pub number-there : (f : List ℕ) (h : Header) (k : ℕ) {s : List ℕ} {r : Entry} → s ≡ section f h → r ≡ entryAt (h .order) s (h .map + 4 + 12 * k) → r ≡ entryNumber f h k
+unfolding entryNumber
+number-there f h k e p = rw (← e) p
 
 -- ---- the loop of `scan` at its head: `left` entries are still to be judged
 pub record Scanning (s : List ℕ) (j : Judge) (from count left place floor : ℕ) (seen : List ℕ) (handles : Table) : Type 0 where
@@ -200,6 +206,8 @@ map-inside f h {s} {b} {y} e a t g =
 
 pub on-map : {B : Type 0} {x c : MapAnswer} {o : Outcome MapList} {y : Outcome B} (k : MapList → Outcome B) → map-outcome x ≡ o → x ≡ c → y ≡ (map-outcome c >>= k) → y ≡ (o >>= k)
 on-map = said map-outcome
+
+pub ruleset number-laws = (number-past, number-there, needs)
 
 pub ruleset entry-laws = (handles-low, handles-uneven, handles-room, entry-sites, entry-old, entry-handles, entry-other, next-low, next-seen, next-by, handles-new, handles-kept, entry-past, entry-by, needs)
 

@@ -21,6 +21,10 @@ use Rattle.map_list.specs.Codes.{codeOf}
 abbrev pub entryAt : Endian → List ℕ → ℕ → Entry
 entryAt o s p = record { kind = u16At o s p; size = u32At o s (p + 4); offset = u32At o s (p + 8) }
 
+-- entry k of the map
+unfoldable pub entryNumber : List ℕ → Header → ℕ → Entry
+entryNumber f h k = entryAt (h .order) (section f h) (h .map + 4 + 12 * k)
+
 -- "Type 8 gives the count and place of method handles, 8 bytes each, at 112 or later, a multiple of 4, inside the file."
 unfoldable pub handlesAllowed : ℕ → ℕ → ℕ → Bool
 handlesAllowed len size offset = leb 112 offset && (eqb (offset % 4) 0 && leb (offset + 8 * size) len)

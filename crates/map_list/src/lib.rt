@@ -7,7 +7,7 @@ ghost use mathlib.Core.Path.{_≡_};
 ghost use Prim.Native.Nat.{_+_, _*_, _≤_};
 ghost use lib.ListN.{length};
 ghost use Rattle.map_list.specs.Codes.{codeOf};
-ghost use Rattle.map_list.specs.Map.{entryAt, handlesAllowed, entryAllowed, nextAllowed, handlesOf, scanAt, keptListAt, keptAt};
+ghost use Rattle.map_list.specs.Map.{entryAt, entryNumber, handlesAllowed, entryAllowed, nextAllowed, handlesOf, scanAt, keptListAt, keptAt};
 ghost use Rattle.map_list.specs.Answers.{handles-outcome, map-outcome};
 
 // The type codes are one fixed table.
@@ -97,6 +97,23 @@ pub fn entry_at(s: &[u8], order: Endian, at: usize) -> Entry
     }
 }
 
+// Entry k of the map.
+pub fn entry_number(f: &[u8], h: Header, k: u32) -> Entry
+    ensures { λ r. ⌜ r ≡ entryNumber (now (f .entry)) h k ⌝ }
+{
+    let order = h.order;
+    let map = h.map;
+    let s = header::section_of(f, h);
+    if s.len() <= map {
+        return Entry {
+            kind: 0,
+            size: 0,
+            offset: 0,
+        };
+    }
+    entry_at(s, order, map + 4 + 12 * k as usize)
+}
+
 // May the method handles lie there: 8 bytes each, also where there are none.
 fn are_handles_allowed(length: usize, size: u32, offset: u32) -> bool
     ensures { λ r. ⌜ r ≡ handlesAllowed length size offset ⌝ }
@@ -149,7 +166,7 @@ fn handles_of(e: Entry, before: Table) -> Table
     if kind == 8 {
         return Table {
             count: e.size,
-            offset: e.offset as usize,
+            offset: e.offset,
         };
     }
     before

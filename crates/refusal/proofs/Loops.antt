@@ -8,7 +8,7 @@ use mathlib.Core.List.{List, [], _∷_, _++_, append-nil}
 use native.Mathlib.Omega.{arith}
 use Rattle.refusal.specs.declared.Refusal.{Refusal}
 use Rattle.refusal.specs.Outcome.{Outcome, answer, refused, _>>=_, given, accepted}
-use Rattle.refusal.specs.Rows.{repeat, Found, past, collect, Next, more, ends, followed, until, numbered, every, Turn, follows, turn, first-turn, in-turn}
+use Rattle.refusal.specs.Rows.{repeat, Found, past, in-front, collect, Next, more, ends, followed, until, numbered, every, Turn, follows, turn, first-turn, in-turn}
 use Rattle.refusal.specs.Seek.{seek}
 use Rattle.refusal.proofs.Laws.{bind-answer, bind-refused, passes, fails, Walk, walk-start, walk-next, walk-stop, walk-done}
 use Rattle.refusal.proofs.Rows.{past-collect, past-refused, past-answer, after, after-none, after-front}
@@ -89,31 +89,52 @@ module _ {A : Type 0} {entry : ℕ → Outcome A} {before : A → A → Bool} {n
   pub turns-done : left ≤ 0 → answer tt ≡ (in-turn entry before n place count >>= accepted)
   turns-done l = sym (bind-answer _ (sym (turns-all l .1)))
 
--- the same where the code keeps less of the last item than the reading: there is an item of which what is kept is true
-pub record Holding {A : Type 0} (entry : ℕ → Outcome A) (before : A → A → Bool) (n : ℕ) (place : ℕ → ℕ) (Kept : Option A → Type 0) (count left k : ℕ) : Type 0 where
-  last : Option A
-  kept : Kept last
-  turns : Turns entry before n place count left (record { number = k; last = last })
+-- a loop that goes over a row, of which the code keeps less than the reading: there is what was found, of which what is kept is true
+pub record Collecting {A S : Type 0} (step : S → Outcome (Found A S)) (n : ℕ) (from : S) (Kept : List A → S → Type 0) (left : ℕ) : Type 0 where
+  front : List A
+  state : S
+  kept : Kept front state
+  same : collect n step from ≡ (collect left step state >>= after front)
 
-pub holding-first : {A : Type 0} (entry : ℕ → Outcome A) (before : A → A → Bool) (n : ℕ) (place : ℕ → ℕ) (Kept : Option A → Type 0) (count : ℕ)
-    → Kept none → Holding entry before n place Kept count count 0
-holding-first entry before n place Kept count kept = record { last = none; kept = kept; turns = turns-first entry before n place count }
+pub collecting-first : {A S : Type 0} (step : S → Outcome (Found A S)) (n : ℕ) (from : S) (Kept : List A → S → Type 0) → Kept [] from → Collecting step n from Kept n
+collecting-first step n from Kept kept = record { front = []; state = from; kept = kept; same = after-none (collect n step from) }
 
-module _ {A : Type 0} {entry : ℕ → Outcome A} {before : A → A → Bool} {n : ℕ} {place : ℕ → ℕ} {Kept : Option A → Type 0} {count left k : ℕ}
-    (h : Holding entry before n place Kept count left k) where
-  pub holding-next : (Keep : Option A → Type 0) {a : A} → 0 < left → answer a ≡ entry k → ((o : Option A) → Kept o → follows before o a ≡ true) → Keep (some a)
-      → Holding entry before n place Keep count (left - 1) (k + 1)
-  holding-next Keep {a} l e f keep = record { last = some a; kept = keep; turns = turns-next (h .turns) l e (f (h .last) (h .kept)) }
+-- what the next step finds, and what is kept then
+pub record Goes {A S : Type 0} (step : S → Outcome (Found A S)) (Keep : List A → S → Type 0) (l : List A) (s : S) : Type 0 where
+  item : A
+  next : S
+  found : answer (record { item = item; next = next }) ≡ step s
+  keep : Keep (l ++ item ∷ []) next
 
-  pub holding-stop : {B : Type 0} {r : Refusal} (f : List A → Outcome B) → 0 < left → refused r ≡ entry k → refused r ≡ (in-turn entry before n place count >>= f)
-  holding-stop f l e = turns-stop (h .turns) f l e
+module _ {A S : Type 0} {step : S → Outcome (Found A S)} {n : ℕ} {from : S} {Kept : List A → S → Type 0} {left : ℕ} (h : Collecting step n from Kept left) where
+  collect-more : 0 < left → (s : S) → collect left step s ≡ (step s >>= λ (r : Found A S). collect (left - 1) step (r .next) >>= in-front (r .item))
+  unfolding collect
+  collect-more p s = go left p
+    where
+      go : (m : ℕ) → 0 < m → collect m step s ≡ (step s >>= λ (r : Found A S). collect (m - 1) step (r .next) >>= in-front (r .item))
+      go zero q = absurd (omega arith)
+      go (suc m) q =
+          let back : suc m - 1 ≡ m = omega arith in
+          rw back
 
-  pub holding-fail : {B : Type 0} {a : A} (g : List A → Outcome B) → 0 < left → answer a ≡ entry k → ((o : Option A) → Kept o → follows before o a ≡ false)
-      → refused (record { number = n; place = place k }) ≡ (in-turn entry before n place count >>= g)
-  holding-fail g l e f = turns-fail (h .turns) g l e (f (h .last) (h .kept))
+  pub collecting-next : (Keep : List A → S → Type 0) → 0 < left → ((l : List A) (s : S) → Kept l s → Goes step Keep l s) → Collecting step n from Keep (left - 1)
+  collecting-next Keep p go =
+      let g = go (h .front) (h .state) (h .kept) in
+      record {
+        front = h .front ++ g .item ∷ [];
+        state = g .next;
+        kept = g .keep;
+        same = h .same ∙ ap (λ (o : Outcome (Found (List A) S)). o >>= after (h .front)) (collect-more p (h .state) ∙ bind-answer _ (sym (g .found))) ∙ after-front (h .front) (g .item) (collect (left - 1) step (g .next));
+      }
 
-  pub holding-all : left ≤ 0 → (l : List A) × (answer l ≡ in-turn entry before n place count)
-  holding-all l = turns-all (h .turns) l
+  pub collecting-stop : {r : Refusal} → 0 < left → ((l : List A) (s : S) → Kept l s → refused r ≡ step s) → refused r ≡ collect n step from
+  collecting-stop p go = sym (h .same ∙ bind-refused _ (collect-more p (h .state) ∙ bind-refused _ (sym (go (h .front) (h .state) (h .kept)))))
+
+  pub collecting-done : left ≤ 0 → (l : List A) × ((s : S) × (Kept l s × (answer (record { item = l; next = s }) ≡ collect n step from)))
+  unfolding after collect
+  collecting-done p =
+      let none : left ≡ 0 = omega arith in
+      (h .front, (h .state, (h .kept, sym (h .same ∙ ap (λ (m : ℕ). collect m step (h .state) >>= after (h .front)) none ∙ bind-answer _ refl ∙ ap (λ (x : List A). answer (record { item = x; next = h .state })) (append-nil (h .front))))))
 
 -- a loop that goes over a row up to its end; what was found is known by what is kept of it
 pub record Ending {A S : Type 0} (step : S → Outcome (Next A S)) (number place : ℕ) (whole : Outcome (Found (List A) S)) (Kept : List A → Type 0) (left : ℕ) (s : S) : Type 0 where

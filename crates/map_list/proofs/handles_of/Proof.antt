@@ -4,17 +4,13 @@ use Rattle.map_list.proofs.handles_of.Tie as tie
 use Rattle.map_list.proofs.handles_of.Reads as reads
 use Rattle.map_list.proofs.handles_of.Lts as lts
 
--- src/lib.rt:152:21
-cast-t5 : tie.Need-cast-t5
-cast-t5 c = search laws
-
--- src/lib.rt:150:9
+-- src/lib.rt:167:9
 returns : tie.Need-returns
 returns c = search laws
 
--- src/lib.rt:145:1
+-- src/lib.rt:162:1
 returns-2 : tie.Need-returns-2
 returns-2 c = search laws
 
 pub handles-of-spec : {M : Type 1} → statement M
-handles-of-spec = tie.close (tie.spec cast-t5 returns returns-2)
+handles-of-spec = tie.close (tie.spec returns returns-2)

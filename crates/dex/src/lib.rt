@@ -1,0 +1,22 @@
+// The public readers of a DEX file, each over a lent file: header (1 to 6), the map where it is read (8, 9, 16), 7 for a number that is not
+// there, the record, then each item on the way.
+use map_list::Entry;
+use refusal::Refusal;
+
+mod head;
+
+pub use head::handle_count;
+pub use head::header;
+pub use head::map_count;
+pub use head::map_entry;
+pub use head::signature;
+
+pub enum CountAnswer {
+    Got(u32),
+    Refused(Refusal),
+}
+
+pub enum EntryAnswer {
+    Got(Entry),
+    Refused(Refusal),
+}
