@@ -1,3 +1,6 @@
 pub mod Numbers
 pub mod Leaves
 pub mod Cycle
+pub mod Exactly
+pub mod Bounds
+pub mod Nested

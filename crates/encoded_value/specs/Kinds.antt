@@ -43,6 +43,18 @@ walkOf f item = record {
   handles = f .handles;
 }
 
+-- the same for another item: "A body asked for by place .. is itself the item"
+abbrev pub moved : Walk → ℕ → Walk
+moved w item = record {
+  item = item;
+  strings = w .strings;
+  types = w .types;
+  protos = w .protos;
+  fields = w .fields;
+  methods = w .methods;
+  handles = w .handles;
+}
+
 -- the count that an index of a code is tested by: an enum is a field
 unfoldable pub count-of : Walk → ℕ → ℕ
 count-of w code =
