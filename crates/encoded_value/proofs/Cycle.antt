@@ -21,7 +21,7 @@ use Rattle.encoded_value.specs.declared.Step.the-variants as S
 use Rattle.encoded_value.specs.declared.HeadByte.{HeadByte}
 use Rattle.encoded_value.specs.declared.HeadByte.the-variants as H
 use Rattle.encoded_value.specs.Tree.{Tree, Named, Annotation}
-use Rattle.encoded_value.specs.Readings.{headAt, plainAt, indexAt, startAt, arrayWith, namedWith, annotationWith, as-array, as-annotation, kindWith, valueWith, valueAt, arrayAt, annotationAt, pastValue, pastArray, pastAnnotation, pastPlain}
+use Rattle.encoded_value.specs.Readings.{headAt, plainAt, indexAt, startAt, arrayWith, namedWith, annotationWith, as-array, as-annotation, kindWith, valueWith, valueAt, arrayAt, annotationAt, pastValue, pastArray, pastAnnotation, pastNamed, pastPlain}
 use Rattle.encoded_value.specs.Answers.{step-outcome, head-outcome}
 use Rattle.encoded_value.proofs.Leaves.{past-made, after-head}
 
@@ -57,11 +57,14 @@ module _ (s : List ℕ) (w : Walk) where
     kind-plain n m = rw (ne-eqb (h % 32) 0x1c n, ne-eqb (h % 32) 0x1d m)
 
   module _ (left p : ℕ) {x : HeadByte} (e : head-outcome x ≡ headAt s (w .item) p) where
-    pub value-refused : {r : Refusal} → x ≡ H.Refused r → refused r ≡ pastValue s w left p
+    pub no-value : {r : Refusal} → x ≡ H.Refused r → valueAt s w left p ≡ refused r
     unfolding valueWith
-    value-refused t = sym (bind-refused past (ap (λ (f : ℕ → Outcome (Found Tree ℕ)). f p) (value-open left) ∙ bind-refused _ (sym (sym (ap head-outcome t) ∙ e))))
+    no-value t = ap (λ (f : ℕ → Outcome (Found Tree ℕ)). f p) (value-open left) ∙ bind-refused _ (sym (sym (ap head-outcome t) ∙ e))
 
-    value-kind : {h : ℕ} → x ≡ H.Got h → valueAt s w left p ≡ kindWith s w (arrayAt s w left) (annotationAt s w left) h (p + 1)
+    pub value-refused : {r : Refusal} → x ≡ H.Refused r → refused r ≡ pastValue s w left p
+    value-refused t = sym (bind-refused past (no-value t))
+
+    pub value-kind : {h : ℕ} → x ≡ H.Got h → valueAt s w left p ≡ kindWith s w (arrayAt s w left) (annotationAt s w left) h (p + 1)
     unfolding valueWith
     value-kind t = ap (λ (f : ℕ → Outcome (Found Tree ℕ)). f p) (value-open left) ∙ bind-answer _ (sym (sym (ap head-outcome t) ∙ e))
 
@@ -87,11 +90,7 @@ module _ (s : List ℕ) (w : Walk) where
     unfolding annotationAt _>>=_
     annotation-deep = let z : left ≡ 0 = omega arith in rw z
 
-  -- one named value, gone over
-  abbrev pub pastNamed : ℕ → ℕ → Outcome ℕ
-  pastNamed left p = namedWith s w (valueAt s w left) p >>= past
-
-  named-is : (left p : ℕ) → pastNamed left p ≡ (indexAt s (w .item) (w .strings) p >>= λ (n : Found ℕ ℕ). pastValue s w left (n .next))
+  named-is : (left p : ℕ) → pastNamed s w left p ≡ (indexAt s (w .item) (w .strings) p >>= λ (n : Found ℕ ℕ). pastValue s w left (n .next))
   unfolding namedWith
   named-is left p = bind-assoc (indexAt s (w .item) (w .strings) p) _ past ∙ ap (λ (k : Found ℕ ℕ → Outcome ℕ). indexAt s (w .item) (w .strings) p >>= k) (λ i n. sym (past-made {B = Named} (λ (v : Found Tree ℕ). record { name = n .item; value = v .item }) (valueAt s w left (n .next))) i)
 
@@ -103,7 +102,7 @@ module _ (s : List ℕ) (w : Walk) where
         ∙ bind-assoc (ulebAt s (w .item) p) _ past
         ∙ ap (λ (k : Found ℕ ℕ → Outcome ℕ). ulebAt s (w .item) p >>= k) (λ i n. past-collect (valueAt s w (left - 1)) (n .item) (n .next) i)
 
-    annotation-is : pastAnnotation s w left p ≡ (startAt s w p >>= λ (n : Found ℕ ℕ). repeat (n .item) (pastNamed (left - 1)) (n .next))
+    annotation-is : pastAnnotation s w left p ≡ (startAt s w p >>= λ (n : Found ℕ ℕ). repeat (n .item) (pastNamed s w (left - 1)) (n .next))
     unfolding annotationWith startAt
     annotation-is =
         ap (λ (f : ℕ → Outcome (Found Annotation ℕ)). f p >>= past) (annotation-open left l)
@@ -114,7 +113,7 @@ module _ (s : List ℕ) (w : Walk) where
         elements : Found ℕ ℕ → Found ℕ ℕ → Outcome (Found Annotation ℕ)
         elements t n = collect (n .item) (namedWith s w (valueAt s w (left - 1))) (n .next) >>= λ (es : Found (List Named) ℕ). answer (record { item = record { type-index = t .item; elements = es .item }; next = es .next })
 
-        rest : (t : Found ℕ ℕ) → (ulebAt s (w .item) (t .next) >>= elements t >>= past) ≡ (ulebAt s (w .item) (t .next) >>= λ (n : Found ℕ ℕ). repeat (n .item) (pastNamed (left - 1)) (n .next))
+        rest : (t : Found ℕ ℕ) → (ulebAt s (w .item) (t .next) >>= elements t >>= past) ≡ (ulebAt s (w .item) (t .next) >>= λ (n : Found ℕ ℕ). repeat (n .item) (pastNamed s w (left - 1)) (n .next))
         rest t =
             bind-assoc (ulebAt s (w .item) (t .next)) (elements t) past
             ∙ ap (λ (k : Found ℕ ℕ → Outcome ℕ). ulebAt s (w .item) (t .next) >>= k)
@@ -132,7 +131,7 @@ module _ (s : List ℕ) (w : Walk) where
       pub annotation-refused : {r : Refusal} → x ≡ L.Refused r → refused r ≡ pastAnnotation s w left p
       annotation-refused t = sym (annotation-is ∙ bind-refused _ (sym (sym (ap leb-outcome t) ∙ e)))
 
-      pub annotation-first : {n q : ℕ} → x ≡ L.Got n q → Loop (pastAnnotation s w left p) (pastNamed (left - 1)) n q
+      pub annotation-first : {n q : ℕ} → x ≡ L.Got n q → Loop (pastAnnotation s w left p) (pastNamed s w (left - 1)) n q
       annotation-first t = record { same = annotation-is ∙ bind-answer _ (sym (sym (ap leb-outcome t) ∙ e)) }
 
 -- ---- one turn

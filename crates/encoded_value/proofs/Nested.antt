@@ -8,7 +8,7 @@ use native.Mathlib.Omega.{arith}
 use Rattle.refusal.specs.Exact.{Row, empty, first}
 use Rattle.encoded_value.specs.declared.Walk.{Walk}
 use Rattle.encoded_value.specs.Kinds.{moved, count-of}
-use Rattle.encoded_value.specs.Tree.{Tree, Trees, Elements, Named, Annotation, byte, short, char, int, long, float, double, index, null, boolean, array, annotation, trees, elements-of, plainOf}
+use Rattle.encoded_value.specs.Tree.{Tree, Trees, Elements, Named, Annotation, byte, short, char, int, long, float, double, index, null, boolean, array, annotation, trees, elements-of, restOf, plainOf}
 use Rattle.encoded_value.specs.Rules.{Plain, ArrayWith, NamedWith, AnnotationWith, KindWith, an-array, an-annotation, no-body, ValueWith, Value, ArrayBody, AnnotationBody}
 use Rattle.encoded_value.proofs.Bounds.{Gives}
 
@@ -87,7 +87,7 @@ cond-same true = refl
 cond-same false = refl
 
 plain-flat : (code argument x : ℕ) → is-flat (plainOf code argument x) ≡ true
-unfolding plainOf
+unfolding plainOf restOf
 plain-flat code argument x = simp (flat-cond, cond-same)
 
 module _ (s : List ℕ) (w : Walk) where

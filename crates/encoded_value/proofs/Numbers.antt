@@ -25,13 +25,16 @@ pub size-none : (h : ℕ) → 0x1c ≤ h % 32 → 0 ≡ bytes-of h
 unfolding bytes-of
 size-none h p = rw (le-ltb (h % 32) 0x1c p)
 
-pub size-small : (h : ℕ) → h < 256 → bytes-of h ≤ 8
+pub size-most : (h : ℕ) → bytes-of h ≤ h / 32 + 1
 unfolding bytes-of
-size-small h p = go (ltb (h % 32) 0x1c) refl
+size-most h = go (ltb (h % 32) 0x1c)
   where
-    go : (b : Bool) → ltb (h % 32) 0x1c ≡ b → cond b (h / 32 + 1) 0 ≤ 8
-    go true e = omega arith
-    go false e = omega arith
+    go : (b : Bool) → cond b (h / 32 + 1) 0 ≤ h / 32 + 1
+    go true = omega arith
+    go false = omega arith
+
+pub size-small : (h : ℕ) → h < 256 → bytes-of h ≤ 8
+size-small h p = let m = size-most h in omega arith
 
 -- ---- do they fit
 pub room-none : (len at n : ℕ) → len < at → false ≡ leb (at + n) len

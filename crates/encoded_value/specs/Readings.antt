@@ -114,6 +114,9 @@ pastArray s w left p = arrayAt s w left p >>= past
 abbrev pub pastAnnotation : List ℕ → Walk → ℕ → ℕ → Outcome ℕ
 pastAnnotation s w left p = annotationAt s w left p >>= past
 
+abbrev pub pastNamed : List ℕ → Walk → ℕ → ℕ → Outcome ℕ
+pastNamed s w left p = namedWith s w (valueAt s w left) p >>= past
+
 abbrev pub pastPlain : List ℕ → Walk → ℕ → ℕ → Outcome ℕ
 pastPlain s w h p = plainAt s w h p >>= past
 

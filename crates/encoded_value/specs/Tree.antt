@@ -47,7 +47,15 @@ unfoldable pub elements-of : List Named → Elements
 elements-of [] = no-element
 elements-of (e ∷ es) = element (e .name) (e .value) (elements-of es)
 
--- the value of an allowed code other than 1c and 1d, its argument and the number of its bytes: the codes left at the end are the indices
+-- the value of an allowed code other than 1c and 1d, its argument and the number of its bytes. The codes left at the end are the indices
+unfoldable pub restOf : ℕ → ℕ → ℕ → Tree
+restOf code argument x =
+    cond (eqb code 0x10) (float (raised 4 (argument + 1) x))
+    (cond (eqb code 0x11) (double (raised 8 (argument + 1) x))
+    (cond (eqb code 0x1e) null
+    (cond (eqb code 0x1f) (boolean (eqb argument 1))
+    (index code x))))
+
 unfoldable pub plainOf : ℕ → ℕ → ℕ → Tree
 plainOf code argument x =
     cond (eqb code 0x00) (byte (signed (argument + 1) x))
@@ -55,8 +63,4 @@ plainOf code argument x =
     (cond (eqb code 0x03) (char x)
     (cond (eqb code 0x04) (int (signed (argument + 1) x))
     (cond (eqb code 0x06) (long (signed (argument + 1) x))
-    (cond (eqb code 0x10) (float (raised 4 (argument + 1) x))
-    (cond (eqb code 0x11) (double (raised 8 (argument + 1) x))
-    (cond (eqb code 0x1e) null
-    (cond (eqb code 0x1f) (boolean (eqb argument 1))
-    (index code x)))))))))
+    (restOf code argument x)))))

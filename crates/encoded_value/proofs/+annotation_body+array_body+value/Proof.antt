@@ -1,7 +1,7 @@
 use Prim.Native.Nat.{ℕ, _<_, _+_, _-_, _*_}
 use Rattle.refusal.proofs.Laws.{Walk as Loop}
-use Rattle.encoded_value.specs.Readings.{pastValue, pastArray, pastAnnotation}
-use Rattle.encoded_value.proofs.Cycle.{pastNamed, cycle-laws as laws}
+use Rattle.encoded_value.specs.Readings.{pastValue, pastArray, pastAnnotation, pastNamed}
+use Rattle.encoded_value.proofs.Cycle.{cycle-laws as laws}
 use borrow.Fn.Kinds.{In, Out}
 use borrow.Fn.PlainCycle.{Measures, is, falls, and}
 use Rattle.encoded_value.proofs.annotation_body.Reads as annotation-body
