@@ -93,7 +93,7 @@ module _ (s : List ℕ) (w : Walk) where
         (λ r k. record { size = k .0; uleb = k .1 .0; row = k .1 .1 })
         (λ r k. (k .size, (k .uleb, k .row)))
 
-    named-with-exact : (p : ℕ) → Exact (namedWith s w element p) (λ (r : Found Named ℕ). NamedWith s w Element p (r .item) (r .next))
+    pub named-with-exact : (p : ℕ) → Exact (namedWith s w element p) (λ (r : Found Named ℕ). NamedWith s w Element p (r .item) (r .next))
     unfolding namedWith
     named-with-exact p =
         exact-iff

@@ -4,3 +4,4 @@ pub mod Cycle
 pub mod Exactly
 pub mod Bounds
 pub mod Nested
+pub mod Once
