@@ -183,35 +183,47 @@ module _ (code argument x : ℕ) {y : Shown} where
 pub float-by : (f : Format) (k : ℕ) {b r : ℕ} {v : Float} → b ≡ r → v ≡ ofBits f b → is k (floating b v) ≡ is k (floating r (ofBits f r))
 float-by f k e h = λ i. is k (floating (e i) ((h ∙ ap (ofBits f) e) i))
 
--- ---- a nested body
+-- ---- a nested body, behind its head byte at p
 module _ (s : List ℕ) (w : Walk) (left p : ℕ) {x : Step} where
-  module _ (e : step-outcome x ≡ (arrayAt s w left p >>= past)) where
-    pub array-after : {q : ℕ} → x ≡ S.Next q → p ≤ q
-    array-after t = let b = array-ends s w left p e t .after-place in omega arith
+  module _ (e : step-outcome x ≡ (arrayAt s w left (p + 1) >>= past)) where
+    module _ {q : ℕ} (t : x ≡ S.Next q) where
+      pub array-after : p ≤ q
+      array-after = let b = array-ends s w left (p + 1) e t .after-place in omega arith
 
-    pub array-read : {q : ℕ} → x ≡ S.Next q → answer (record { item = is 0x1c (body p (q - p)); next = q }) ≡ decodedArray s w left p
+      pub array-some : 1 ≤ q - p
+      array-some = let b = array-ends s w left (p + 1) e t .after-place in omega arith
+
+      pub array-read : answer (record { item = is 0x1c (body (p + 1) (q - p - 1)); next = q }) ≡ decodedArray s w left (p + 1)
+      unfolding decodedArray
+      array-read =
+          let r = past-answer (arrayAt s w left (p + 1)) (sym (ap step-outcome t) ∙ e) in
+          let end = r .1 .1 in
+          let long : q - p - 1 ≡ r .0 .next - (p + 1) = omega arith in
+          (λ i. answer (record { item = is 0x1c (body (p + 1) (long i)); next = sym end i })) ∙ sym (bind-answer read-out (bind-answer (as-array (p + 1)) (sym (r .1 .0))))
+
+    pub array-unread : {r : Refusal} → x ≡ S.Refused r → refused r ≡ decodedArray s w left (p + 1)
     unfolding decodedArray
-    array-read t =
-        let r = past-answer (arrayAt s w left p) (sym (ap step-outcome t) ∙ e) in
-        (λ i. answer (record { item = is 0x1c (body p (sym (r .1 .1) i - p)); next = sym (r .1 .1) i })) ∙ sym (bind-answer read-out (bind-answer (as-array p) (sym (r .1 .0))))
+    array-unread t = sym (bind-refused read-out (bind-refused (as-array (p + 1)) (sym (past-refused (arrayAt s w left (p + 1)) (sym (ap step-outcome t) ∙ e)))))
 
-    pub array-unread : {r : Refusal} → x ≡ S.Refused r → refused r ≡ decodedArray s w left p
-    unfolding decodedArray
-    array-unread t = sym (bind-refused read-out (bind-refused (as-array p) (sym (past-refused (arrayAt s w left p) (sym (ap step-outcome t) ∙ e)))))
+  module _ (e : step-outcome x ≡ (annotationAt s w left (p + 1) >>= past)) where
+    module _ {q : ℕ} (t : x ≡ S.Next q) where
+      pub annotation-after : p ≤ q
+      annotation-after = let b = annotation-ends s w left (p + 1) e t .after-place in omega arith
 
-  module _ (e : step-outcome x ≡ (annotationAt s w left p >>= past)) where
-    pub annotation-after : {q : ℕ} → x ≡ S.Next q → p ≤ q
-    annotation-after t = let b = annotation-ends s w left p e t .after-place in omega arith
+      pub annotation-some : 1 ≤ q - p
+      annotation-some = let b = annotation-ends s w left (p + 1) e t .after-place in omega arith
 
-    pub annotation-read : {q : ℕ} → x ≡ S.Next q → answer (record { item = is 0x1d (body p (q - p)); next = q }) ≡ decodedAnnotation s w left p
+      pub annotation-read : answer (record { item = is 0x1d (body (p + 1) (q - p - 1)); next = q }) ≡ decodedAnnotation s w left (p + 1)
+      unfolding decodedAnnotation
+      annotation-read =
+          let r = past-answer (annotationAt s w left (p + 1)) (sym (ap step-outcome t) ∙ e) in
+          let end = r .1 .1 in
+          let long : q - p - 1 ≡ r .0 .next - (p + 1) = omega arith in
+          (λ i. answer (record { item = is 0x1d (body (p + 1) (long i)); next = sym end i })) ∙ sym (bind-answer read-out (bind-answer (as-annotation (p + 1)) (sym (r .1 .0))))
+
+    pub annotation-unread : {r : Refusal} → x ≡ S.Refused r → refused r ≡ decodedAnnotation s w left (p + 1)
     unfolding decodedAnnotation
-    annotation-read t =
-        let r = past-answer (annotationAt s w left p) (sym (ap step-outcome t) ∙ e) in
-        (λ i. answer (record { item = is 0x1d (body p (sym (r .1 .1) i - p)); next = sym (r .1 .1) i })) ∙ sym (bind-answer read-out (bind-answer (as-annotation p) (sym (r .1 .0))))
-
-    pub annotation-unread : {r : Refusal} → x ≡ S.Refused r → refused r ≡ decodedAnnotation s w left p
-    unfolding decodedAnnotation
-    annotation-unread t = sym (bind-refused read-out (bind-refused (as-annotation p) (sym (past-refused (annotationAt s w left p) (sym (ap step-outcome t) ∙ e)))))
+    annotation-unread t = sym (bind-refused read-out (bind-refused (as-annotation (p + 1)) (sym (past-refused (annotationAt s w left (p + 1)) (sym (ap step-outcome t) ∙ e)))))
 
 -- ---- a value
 module _ (s : List ℕ) (w : Walk) (left p : ℕ) {x : HeadByte} (e : head-outcome x ≡ headAt s (w .item) p) where
@@ -245,6 +257,9 @@ module _ (s : List ℕ) (w : Walk) (left p : ℕ) {x : HeadByte} (e : head-outco
       unfolding plainAt
       plain-read {q = q} f u k = ap (λ (c : Shown). answer (record { item = c; next = q })) k ∙ sym (plain-is ∙ bind-answer read-out (bind-answer _ (sym (sym (ap number-outcome u) ∙ f))))
 
+    pub head-room : p < length s
+    head-room = head-there s (w .item) p e t .room
+
     pub fitting : {z : Number} {v q : ℕ} → Small h z → z ≡ N.Got v q → Fitting h v
     fitting k u = record { known = head-there s (w .item) p e t .known; small = k .small u }
 
@@ -277,6 +292,6 @@ pub ruleset kind-laws = (
   needs,
 )
 
-pub ruleset body-laws = (array-after, array-read, array-unread, annotation-after, annotation-read, annotation-unread, needs)
+pub ruleset body-laws = (array-after, array-some, annotation-some, array-read, array-unread, annotation-after, annotation-read, annotation-unread, needs)
 
-pub ruleset value-laws = (value-unread, value-array, value-annotation, plain-unread, plain-read, fitting, after-head, needs)
+pub ruleset value-laws = (value-unread, value-array, value-annotation, plain-unread, plain-read, head-room, fitting, after-head, needs)

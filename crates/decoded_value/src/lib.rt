@@ -7,6 +7,7 @@ use encoded_value::Walk;
 use refusal::Refusal;
 ghost use mathlib.Core.Path.{_≡_};
 ghost use Prim.Native.Nat.{_+_, _*_, _^_, _%_, _/_, _≤_, _<_};
+ghost use lib.ListN.{length};
 ghost use lib.IntN.{pos, negsuc};
 ghost use lib.Ieee.{ofBits, binary32, binary64};
 ghost use Rattle.encoded_value.specs.Numbers.{signed, raised};
@@ -195,33 +196,36 @@ fn plain_of(head: u8, x: u64) -> Value
     rest_of(head, x)
 }
 
-// A nested array: where its body lies.
+// A nested array behind its head byte at a place: where its body lies.
 fn array_at(s: &[u8], w: Walk, at: usize, left: u32) -> Decoded
-    ensures { λ r. ⌜ decoded-outcome r ≡ decodedArray (now (s .entry)) w left at ⌝ }
+    requires { ⌜ at < length (now s) ⌝ }
+    ensures { λ r. ⌜ decoded-outcome r ≡ decodedArray (now (s .entry)) w left (at + 1) ⌝ }
 {
-    match encoded_value::array_body(s, w, at, left) {
+    match encoded_value::array_body(s, w, at + 1, left) {
         Step::Refused(r) => Decoded::Refused(r),
         Step::Next(next) => Decoded::Got {
             value: Value::Array {
-                offset: at,
-                length: next - at,
+                offset: at + 1,
+                length: next - at - 1,
             },
             next,
         },
     }
 }
 
+// The same for a nested annotation.
 fn annotation_at(s: &[u8], w: Walk, at: usize, left: u32) -> Decoded
-    ensures { λ r. ⌜ decoded-outcome r ≡ decodedAnnotation (now (s .entry)) w left at ⌝ }
+    requires { ⌜ at < length (now s) ⌝ }
+    ensures { λ r. ⌜ decoded-outcome r ≡ decodedAnnotation (now (s .entry)) w left (at + 1) ⌝ }
 {
-    match encoded_value::annotation_body(s, w, at, left) {
+    match encoded_value::annotation_body(s, w, at + 1, left) {
         Step::Refused(r) => Decoded::Refused(r),
-        Step::Next(next) => Decoded::Got {
+        Step::Next(end) => Decoded::Got {
             value: Value::Annotation {
-                offset: at,
-                length: next - at,
+                offset: at + 1,
+                length: end - at - 1,
             },
-            next,
+            next: end,
         },
     }
 }
@@ -235,10 +239,10 @@ pub fn decode_at(s: &[u8], w: Walk, at: usize, left: u32) -> Decoded
         HeadByte::Got(head) => {
             let code = head % 32;
             if code == 0x1c {
-                return array_at(s, w, at + 1, left);
+                return array_at(s, w, at, left);
             }
             if code == 0x1d {
-                return annotation_at(s, w, at + 1, left);
+                return annotation_at(s, w, at, left);
             }
             match encoded_value::checked_number(s, w, at + 1, head) {
                 Number::Refused(r) => Decoded::Refused(r),

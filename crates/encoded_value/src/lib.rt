@@ -375,3 +375,16 @@ pub fn annotation_body(s: &[u8], w: Walk, at: usize, left: u32) -> Step
         }
     }
 }
+
+// A top body is depth 1, and the deepest that may be opened is 64.
+pub fn top_array(s: &[u8], w: Walk, at: usize) -> Step
+    ensures { λ r. ⌜ step-outcome r ≡ pastArray (now (s .entry)) w 64 at ⌝ }
+{
+    array_body(s, w, at, 64)
+}
+
+pub fn top_annotation(s: &[u8], w: Walk, at: usize) -> Step
+    ensures { λ r. ⌜ step-outcome r ≡ pastAnnotation (now (s .entry)) w 64 at ⌝ }
+{
+    annotation_body(s, w, at, 64)
+}

@@ -36,7 +36,7 @@ pub enum Element {
 pub fn array_count(s: &[u8], w: Walk, at: usize) -> Count
     ensures { λ r. ⌜ count-outcome r ≡ arrayCount (now (s .entry)) w at ⌝ }
 {
-    match encoded_value::array_body(s, w, at, 64) {
+    match encoded_value::top_array(s, w, at) {
         Step::Refused(r) => Count::Refused(r),
         Step::Next(_) => match leb128::uleb(s, at, w.item) {
             Leb::Refused(r) => Count::Refused(r),
@@ -82,7 +82,7 @@ fn kth_value(s: &[u8], w: Walk, from: usize, k: u32) -> Picked
 pub fn array_value(s: &[u8], w: Walk, at: usize, k: u32) -> Picked
     ensures { λ r. ⌜ picked-outcome r ≡ arrayValue (now (s .entry)) w at k ⌝ }
 {
-    match encoded_value::array_body(s, w, at, 64) {
+    match encoded_value::top_array(s, w, at) {
         Step::Refused(r) => Picked::Refused(r),
         Step::Next(_) => match leb128::uleb(s, at, w.item) {
             Leb::Refused(r) => Picked::Refused(r),
@@ -103,7 +103,7 @@ pub fn array_value(s: &[u8], w: Walk, at: usize, k: u32) -> Picked
 pub fn annotation_head(s: &[u8], w: Walk, at: usize) -> Head
     ensures { λ r. ⌜ head-outcome r ≡ annotationNoted (now (s .entry)) w at ⌝ }
 {
-    match encoded_value::annotation_body(s, w, at, 64) {
+    match encoded_value::top_annotation(s, w, at) {
         Step::Refused(r) => Head::Refused(r),
         Step::Next(_) => match encoded_value::index_at(s, w.item, w.types, at) {
             Leb::Refused(r) => Head::Refused(r),
@@ -173,7 +173,7 @@ fn kth_element(s: &[u8], w: Walk, from: usize, k: u32) -> Element
 pub fn annotation_element(s: &[u8], w: Walk, at: usize, k: u32) -> Element
     ensures { λ r. ⌜ element-outcome r ≡ annotationElement (now (s .entry)) w at k ⌝ }
 {
-    match encoded_value::annotation_body(s, w, at, 64) {
+    match encoded_value::top_annotation(s, w, at) {
         Step::Refused(r) => Element::Refused(r),
         Step::Next(_) => match encoded_value::annotation_start(s, w, at) {
             Leb::Refused(r) => Element::Refused(r),

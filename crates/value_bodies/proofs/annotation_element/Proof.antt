@@ -3,13 +3,13 @@ use Rattle.value_bodies.proofs.annotation_element.Statement.{statement}
 use Rattle.value_bodies.proofs.annotation_element.Tie as tie
 use Rattle.value_bodies.proofs.annotation_element.Reads as reads
 use Rattle.value_bodies.proofs.annotation_element.Lts as lts
-use Rattle.encoded_value.proofs.annotation_body.Reads as annotation-body-reads
+use Rattle.encoded_value.proofs.top_annotation.Reads as top-annotation-reads
 use Rattle.encoded_value.proofs.annotation_start.Reads as annotation-start-reads
 use Rattle.value_bodies.proofs.kth_element.Reads as kth-element-reads
 
 -- src/lib.rt:176:11
-annotation-body-requires : tie.Need-annotation-body-requires
-annotation-body-requires c κs = search laws
+top-annotation-requires : tie.Need-top-annotation-requires
+top-annotation-requires c κs = search laws
 
 -- src/lib.rt:177:23
 enum-known-r : tie.Need-enum-known-r
@@ -55,7 +55,7 @@ pub annotation-element-spec : {M : Type 1} → statement M
 annotation-element-spec =
     tie.close
     (tie.spec
-    annotation-body-requires
+    top-annotation-requires
     enum-known-r
     enum-told
     annotation-start-requires

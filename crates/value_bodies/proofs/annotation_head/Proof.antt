@@ -3,13 +3,13 @@ use Rattle.value_bodies.proofs.annotation_head.Statement.{statement}
 use Rattle.value_bodies.proofs.annotation_head.Tie as tie
 use Rattle.value_bodies.proofs.annotation_head.Reads as reads
 use Rattle.value_bodies.proofs.annotation_head.Lts as lts
-use Rattle.encoded_value.proofs.annotation_body.Reads as annotation-body-reads
+use Rattle.encoded_value.proofs.top_annotation.Reads as top-annotation-reads
 use Rattle.encoded_value.proofs.index_at.Reads as index-at-reads
 use Rattle.leb128.proofs.uleb.Reads as uleb-reads
 
 -- src/lib.rt:106:11
-annotation-body-requires : tie.Need-annotation-body-requires
-annotation-body-requires c κs = search laws
+top-annotation-requires : tie.Need-top-annotation-requires
+top-annotation-requires c κs = search laws
 
 -- src/lib.rt:107:23
 enum-known-r : tie.Need-enum-known-r
@@ -63,7 +63,7 @@ pub annotation-head-spec : {M : Type 1} → statement M
 annotation-head-spec =
     tie.close
     (tie.spec
-    annotation-body-requires
+    top-annotation-requires
     enum-known-r
     enum-told
     index-at-requires

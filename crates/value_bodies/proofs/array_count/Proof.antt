@@ -3,12 +3,12 @@ use Rattle.value_bodies.proofs.array_count.Statement.{statement}
 use Rattle.value_bodies.proofs.array_count.Tie as tie
 use Rattle.value_bodies.proofs.array_count.Reads as reads
 use Rattle.value_bodies.proofs.array_count.Lts as lts
-use Rattle.encoded_value.proofs.array_body.Reads as array-body-reads
+use Rattle.encoded_value.proofs.top_array.Reads as top-array-reads
 use Rattle.leb128.proofs.uleb.Reads as uleb-reads
 
 -- src/lib.rt:39:11
-array-body-requires : tie.Need-array-body-requires
-array-body-requires c κs = search laws
+top-array-requires : tie.Need-top-array-requires
+top-array-requires c κs = search laws
 
 -- src/lib.rt:40:23
 enum-known-r : tie.Need-enum-known-r
@@ -46,7 +46,7 @@ pub array-count-spec : {M : Type 1} → statement M
 array-count-spec =
     tie.close
     (tie.spec
-    array-body-requires
+    top-array-requires
     enum-known-r
     enum-told
     uleb-requires

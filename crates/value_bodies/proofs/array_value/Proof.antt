@@ -3,13 +3,13 @@ use Rattle.value_bodies.proofs.array_value.Statement.{statement}
 use Rattle.value_bodies.proofs.array_value.Tie as tie
 use Rattle.value_bodies.proofs.array_value.Reads as reads
 use Rattle.value_bodies.proofs.array_value.Lts as lts
-use Rattle.encoded_value.proofs.array_body.Reads as array-body-reads
+use Rattle.encoded_value.proofs.top_array.Reads as top-array-reads
 use Rattle.leb128.proofs.uleb.Reads as uleb-reads
 use Rattle.value_bodies.proofs.kth_value.Reads as kth-value-reads
 
 -- src/lib.rt:85:11
-array-body-requires : tie.Need-array-body-requires
-array-body-requires c κs = search laws
+top-array-requires : tie.Need-top-array-requires
+top-array-requires c κs = search laws
 
 -- src/lib.rt:86:23
 enum-known-r : tie.Need-enum-known-r
@@ -55,7 +55,7 @@ pub array-value-spec : {M : Type 1} → statement M
 array-value-spec =
     tie.close
     (tie.spec
-    array-body-requires
+    top-array-requires
     enum-known-r
     enum-told
     uleb-requires
