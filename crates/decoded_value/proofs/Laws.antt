@@ -1,25 +1,25 @@
 -- What the functions' proofs cite: the sizes that the table allows, and the ways through a value that is read out.
 -- Assumes nothing.
-use Prim.Native.Nat.{ℕ, zero, suc, _+_, _-_, _*_, _%_, _/_, _^_, _<_, _≤_}
-use mathlib.Core.Path.{_≡_, refl, ap, sym, subst, _∙_}
+use Prim.Native.Nat.{ℕ, zero, suc, _+_, _-_, _*_, _%_, _/_, _<_, _≤_}
+use mathlib.Core.Path.{_≡_, refl, ap, sym, _∙_}
 use mathlib.Core.Logic.{_⊎_, inl, inr, ⊎-elim}
 use mathlib.Core.Bool.{Bool, true, false, false≢true, _&&_, _||_}
 use mathlib.Core.List.{List}
 use lib.ListN.{length, getD}
-use lib.Dec.{leb, eqb, ltb}
+use lib.Dec.{leb, eqb}
 use lib.Ieee.{Float, Format, ofBits}
 use lib.Pow.{pow-mono}
 use native.Mathlib.Decide.{decLt}
 use native.Mathlib.Omega.{arith}
 use borrow.Author.Needs.{needs}
 use borrow.Author.Tests.{eq-eqb, ne-eqb}
-use mir.Syntax.{w16, w32, w64}
+use mir.Syntax.{w16, w32}
 use mir.Val.{Fits}
 use Rattle.refusal.specs.declared.Refusal.{Refusal}
 use Rattle.refusal.specs.Outcome.{Outcome, answer, refused, _>>=_}
 use Rattle.refusal.specs.Rows.{Found, past}
 use Rattle.refusal.proofs.Laws.{said, bind-answer, bind-refused}
-use Rattle.refusal.proofs.Exact.{equal, at-most, one-of, both}
+use Rattle.refusal.proofs.Exact.{equal, at-most, one-of}
 use Rattle.refusal.proofs.Rows.{past-answer, past-refused}
 use Rattle.encoded_value.specs.declared.Walk.{Walk}
 use Rattle.encoded_value.specs.declared.Step.{Step}
@@ -30,16 +30,15 @@ use Rattle.encoded_value.specs.declared.Number.{Number}
 use Rattle.encoded_value.specs.declared.Number.the-variants as N
 use Rattle.encoded_value.specs.Kinds.{arguments, bytes-of}
 use Rattle.encoded_value.specs.Numbers.{signed, raised}
-use Rattle.encoded_value.specs.Tree.{Tree, Annotation, byte, short, char, int, long, float, double, index, null, boolean, restOf, plainOf}
-use Rattle.encoded_value.specs.Readings.{headAt, checkedAt, plainAt, kindWith, valueAt, arrayAt, annotationAt, as-array, as-annotation}
+use Rattle.encoded_value.specs.Tree.{Tree, byte, short, char, int, long, float, double, index, null, boolean, restOf, plainOf}
+use Rattle.encoded_value.specs.Readings.{headAt, checkedAt, plainAt, kindWith, arrayAt, annotationAt, as-array, as-annotation}
 use Rattle.encoded_value.specs.Answers.{step-outcome, head-outcome, number-outcome, Small}
 use Rattle.encoded_value.proofs.Numbers.{size-some, size-most}
 use Rattle.encoded_value.proofs.Leaves.{head-there, after-head}
 use Rattle.encoded_value.proofs.Cycle.{value-kind, no-value, kind-array, kind-annotation, kind-plain}
 use Rattle.encoded_value.proofs.Bounds.{array-ends, annotation-ends}
-use Rattle.decoded_value.specs.declared.Value.{Value}
 use Rattle.decoded_value.specs.declared.Decoded.{Decoded}
-use Rattle.decoded_value.specs.Shown.{Shown, Content, is, floating, row-number, body, truth, nothing, natural, shown, value-shown}
+use Rattle.decoded_value.specs.Shown.{Shown, is, floating, body, shown}
 use Rattle.decoded_value.specs.Sizes.{Sized, Fitting}
 use Rattle.decoded_value.specs.Readings.{read-out, decodedAt, decodedArray, decodedAnnotation, decoded-outcome}
 

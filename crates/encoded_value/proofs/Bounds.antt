@@ -1,11 +1,11 @@
 -- Laws of the rules: a value or a body ends after its place and within the slice.
 -- Assumes nothing.
-use Prim.Native.Nat.{ℕ, zero, suc, _+_, _-_, _<_, _≤_}
-use mathlib.Core.Path.{_≡_, refl, ap, sym, subst, _∙_}
+use Prim.Native.Nat.{ℕ, zero, suc, _<_, _≤_}
+use mathlib.Core.Path.{_≡_, ap, sym, subst, _∙_}
 use mathlib.Core.List.{List}
 use lib.ListN.{length}
 use native.Mathlib.Omega.{arith}
-use Rattle.refusal.specs.Outcome.{answer, _>>=_}
+use Rattle.refusal.specs.Outcome.{_>>=_}
 use Rattle.refusal.specs.Rows.{Found, past}
 use Rattle.refusal.specs.Exact.{Row, empty, first}
 use Rattle.refusal.proofs.Rows.{past-answer}
@@ -15,11 +15,11 @@ use Rattle.leb128.proofs.Laws.{uleb-span}
 use Rattle.encoded_value.specs.declared.Walk.{Walk}
 use Rattle.encoded_value.specs.declared.Step.{Step}
 use Rattle.encoded_value.specs.declared.Step.the-variants as S
-use Rattle.encoded_value.specs.Tree.{Tree, Named, Annotation}
-use Rattle.encoded_value.specs.Readings.{valueAt, arrayAt, annotationAt}
-use Rattle.encoded_value.specs.Rules.{Index, Plain, ArrayWith, NamedWith, AnnotationWith, KindWith, an-array, an-annotation, no-body, ValueWith, None, Value, ArrayBody, AnnotationBody}
+use Rattle.encoded_value.specs.Tree.{Tree, Annotation}
+use Rattle.encoded_value.specs.Readings.{arrayAt, annotationAt}
+use Rattle.encoded_value.specs.Rules.{ArrayWith, NamedWith, AnnotationWith, KindWith, an-array, an-annotation, no-body, ValueWith, Value, ArrayBody, AnnotationBody}
 use Rattle.encoded_value.specs.Answers.{step-outcome}
-use Rattle.encoded_value.proofs.Exactly.{value-exact, array-exact, annotation-exact}
+use Rattle.encoded_value.proofs.Exactly.{array-exact, annotation-exact}
 
 -- ---- where they end
 pub record Extent (s : List ℕ) (p q : ℕ) : Type 0 where

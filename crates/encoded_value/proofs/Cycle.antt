@@ -9,7 +9,7 @@ use native.Mathlib.Omega.{arith}
 use Rattle.refusal.specs.declared.Refusal.{Refusal}
 use Rattle.refusal.specs.Outcome.{Outcome, answer, refused, _>>=_}
 use Rattle.refusal.specs.Rows.{Found, past, repeat, collect}
-use Rattle.refusal.proofs.Laws.{bind-answer, bind-refused, Walk as Loop, walk-start, walk-next, walk-stop, walk-done}
+use Rattle.refusal.proofs.Laws.{bind-answer, bind-refused, Walk as Loop, walk-next, walk-stop, walk-done}
 use Rattle.refusal.proofs.Rows.{bind-assoc, past-collect}
 use Rattle.leb128.specs.Leb.{ulebAt}
 use Rattle.leb128.specs.Answers.{leb-outcome}

@@ -7,21 +7,20 @@ use mathlib.Core.Bool.{Bool, true, false, cond, false≢true}
 use mathlib.Core.List.{List}
 use lib.ListN.{length}
 use native.Mathlib.Omega.{arith}
-use Rattle.refusal.specs.Outcome.{Outcome, answer, refused, _>>=_}
+use Rattle.refusal.specs.Outcome.{Outcome}
 use Rattle.refusal.specs.Rows.{Found}
-use Rattle.refusal.specs.Exact.{Exact, Decides, Row}
+use Rattle.refusal.specs.Exact.{Exact, Decides}
 use Rattle.refusal.proofs.Exact.{same, never, below, at-most, both, equal, given-exact, answer-exact, bind-exact, either-exact, exact-iff}
 use Rattle.refusal.proofs.Rows.{collect-exact}
-use Rattle.word.specs.Bytes.{stretch, Stands}
+use Rattle.word.specs.Bytes.{stretch}
 use Rattle.word.proofs.Laws.{length-stretch}
-use Rattle.leb128.specs.Rules.{Uleb}
 use Rattle.leb128.proofs.Exactly.{uleb-exact}
 use Rattle.encoded_value.specs.declared.Walk.{Walk}
 use Rattle.encoded_value.specs.Kinds.{bytes-of, is-index, count-of, in-range}
 use Rattle.encoded_value.specs.Numbers.{little}
 use Rattle.encoded_value.specs.Tree.{Tree, Named, Annotation, array, annotation, trees, elements-of, plainOf}
-use Rattle.encoded_value.specs.Readings.{headAt, numberAt, indexAt, checkedAt, plainAt, arrayWith, namedWith, annotationWith, kindWith, valueWith, too-deep, valueAt, arrayAt, annotationAt}
-use Rattle.encoded_value.specs.Rules.{Head, Number, Index, Plain, ArrayWith, NamedWith, AnnotationWith, KindWith, an-array, an-annotation, no-body, ValueWith, None, Value, ArrayBody, AnnotationBody}
+use Rattle.encoded_value.specs.Readings.{numberAt, indexAt, checkedAt, plainAt, arrayWith, namedWith, annotationWith, kindWith, valueWith, too-deep, valueAt, arrayAt, annotationAt}
+use Rattle.encoded_value.specs.Rules.{Number, Index, Plain, ArrayWith, NamedWith, AnnotationWith, KindWith, an-array, an-annotation, no-body, ValueWith, None, Value, ArrayBody, AnnotationBody}
 use Rattle.encoded_value.proofs.Leaves.{head-exact}
 
 -- ---- the bytes and the index of a value that is no body

@@ -5,17 +5,16 @@ use mathlib.Core.Path.{_≡_, refl, ap, sym, _∙_}
 use mathlib.Core.Bool.{Bool, true, false}
 use mathlib.Core.List.{List}
 use lib.ListN.{length, getD}
-use lib.Dec.{leb, ltb, eqb}
+use lib.Dec.{leb, ltb}
 use native.Mathlib.Omega.{arith}
 use borrow.Author.Needs.{needs}
-use borrow.Author.Tests.{le-leb, lt-leb, lt-ltb, le-ltb, eq-eqb, ne-eqb}
+use borrow.Author.Tests.{le-leb, lt-leb, eq-eqb, ne-eqb}
 use mir.Syntax.{w8, w64}
 use mir.Val.{Fits}
 use Rattle.refusal.specs.declared.Refusal.{Refusal}
 use Rattle.refusal.specs.Outcome.{Outcome, answer, refused, _>>=_, given}
 use Rattle.refusal.specs.Rows.{Found, past}
-use Rattle.refusal.proofs.Laws.{said, tests, calls, bind-answer, bind-refused, passes, fails}
-use Rattle.refusal.proofs.Rows.{bind-assoc}
+use Rattle.refusal.proofs.Laws.{said, tests, calls, bind-answer, bind-refused}
 use Rattle.refusal.specs.Exact.{Exact, Decides}
 use Rattle.refusal.proofs.Exact.{below, given-exact, answer-exact, exact-iff}
 use Rattle.word.specs.Bytes.{stretch}
@@ -29,7 +28,7 @@ use Rattle.encoded_value.specs.declared.Number.the-variants as N
 use Rattle.encoded_value.specs.Rules.{Head}
 use Rattle.encoded_value.specs.Kinds.{arguments, allowed-head, bytes-of, is-index, count-of, in-range}
 use Rattle.encoded_value.specs.Numbers.{little}
-use Rattle.encoded_value.specs.Readings.{headAt, numberAt, checkedAt, plainAt, indexAt, startAt}
+use Rattle.encoded_value.specs.Readings.{headAt, numberAt, checkedAt, plainAt}
 use Rattle.encoded_value.specs.Answers.{step-outcome, head-outcome, number-outcome, Small}
 use Rattle.encoded_value.proofs.Numbers.{size-some, size-none, size-small, room-none, room-left, room-there, room-fits}
 

@@ -1,6 +1,6 @@
 -- Laws of the rules: what obeys them with so many bodies obeys them with more, and for another item, so that a nested body can be asked for by place.
 -- Assumes nothing.
-use Prim.Native.Nat.{ℕ, zero, suc, _+_, _-_, _%_, _/_, _≤_, _<_}
+use Prim.Native.Nat.{ℕ, zero, suc, _%_, _/_, _≤_}
 use mathlib.Core.Path.{_≡_, refl, ap, sym, _∙_}
 use mathlib.Core.Bool.{Bool, true, false, cond, false≢true}
 use mathlib.Core.List.{List}
@@ -8,7 +8,7 @@ use native.Mathlib.Omega.{arith}
 use Rattle.refusal.specs.Exact.{Row, empty, first}
 use Rattle.encoded_value.specs.declared.Walk.{Walk}
 use Rattle.encoded_value.specs.Kinds.{moved, count-of}
-use Rattle.encoded_value.specs.Tree.{Tree, Trees, Elements, Named, Annotation, byte, short, char, int, long, float, double, index, null, boolean, array, annotation, trees, elements-of, restOf, plainOf}
+use Rattle.encoded_value.specs.Tree.{Tree, Trees, Elements, Annotation, byte, short, char, int, long, float, double, index, null, boolean, array, annotation, trees, elements-of, restOf, plainOf}
 use Rattle.encoded_value.specs.Rules.{Plain, ArrayWith, NamedWith, AnnotationWith, KindWith, an-array, an-annotation, no-body, ValueWith, Value, ArrayBody, AnnotationBody}
 use Rattle.encoded_value.proofs.Bounds.{Gives}
 

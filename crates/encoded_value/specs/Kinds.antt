@@ -1,5 +1,5 @@
 -- Document 01's table of codes and arguments: "The low five bits are the code, the high three the size argument".
-use Prim.Native.Nat.{ℕ, _+_, _%_, _/_, _≤_, _<_}
+use Prim.Native.Nat.{ℕ, _+_, _%_, _/_}
 use mathlib.Core.Bool.{Bool, true, cond, _&&_}
 use mathlib.Core.List.{List, [], _∷_}
 use lib.ListN.{getD}

@@ -4,7 +4,7 @@ use Prim.Native.Nat.{ℕ, _<_, _≤_}
 use mathlib.Core.Path.{_≡_, _∙_}
 use mathlib.Core.List.{List}
 use lib.ListN.{length}
-use Rattle.refusal.specs.Outcome.{answer, refused, _>>=_}
+use Rattle.refusal.specs.Outcome.{answer, refused}
 use Rattle.refusal.specs.Exact.{At}
 use Rattle.refusal.proofs.Laws.{bind-answer, bind-refused}
 use Rattle.refusal.proofs.Each.{at-some}
@@ -14,7 +14,7 @@ use Rattle.encoded_value.specs.Readings.{arrayAt, annotationAt}
 use Rattle.encoded_value.specs.Rules.{ArrayBody, AnnotationBody}
 use Rattle.encoded_value.proofs.Exactly.{array-exact, annotation-exact}
 use Rattle.decoded_value.specs.Shown.{shown}
-use Rattle.value_bodies.specs.Bodies.{pick, arrayCount, arrayValue, annotationNoted, annotationElement}
+use Rattle.value_bodies.specs.Bodies.{arrayCount, arrayValue, annotationNoted, annotationElement}
 use Rattle.value_bodies.proofs.Picks.{pick-there, pick-none}
 
 module _ (s : List ℕ) (w : Walk) (p q : ℕ) (vs : List Tree) (h : ArrayBody s w 64 p vs q) where

@@ -1,16 +1,15 @@
 -- What the functions' proofs cite: a body that was gone over whole has its size, and each of its values can be reached.
 -- Assumes nothing.
-use Prim.Native.Nat.{ℕ, _+_, _<_, _≤_}
-use mathlib.Core.Path.{_≡_, refl, ap, sym, subst, _∙_}
+use Prim.Native.Nat.{ℕ, _<_, _≤_}
+use mathlib.Core.Path.{_≡_, ap, sym, subst, _∙_}
 use mathlib.Core.List.{List}
 use lib.ListN.{length}
 use native.Mathlib.Omega.{arith}
 use borrow.Author.Needs.{needs}
 use Rattle.refusal.specs.declared.Refusal.{Refusal}
 use Rattle.refusal.specs.Outcome.{Outcome, answer, refused, _>>=_}
-use Rattle.refusal.specs.Rows.{Found, past, repeat}
-use Rattle.refusal.specs.Exact.{Exact}
-use Rattle.refusal.proofs.Laws.{said, calls, bind-answer, bind-refused, Walk as Loop, walk-start, walk-done}
+use Rattle.refusal.specs.Rows.{Found, repeat}
+use Rattle.refusal.proofs.Laws.{calls, bind-answer, bind-refused, walk-start, walk-done}
 use Rattle.refusal.proofs.Exact.{answers-equal, never}
 use Rattle.refusal.proofs.Rows.{past-answer, past-refused}
 use Rattle.leb128.specs.Leb.{ulebAt}
@@ -24,7 +23,7 @@ use Rattle.encoded_value.specs.declared.Step.{Step}
 use Rattle.encoded_value.specs.declared.Step.the-variants as S
 use Rattle.encoded_value.specs.Tree.{Tree, Named, Annotation}
 use Rattle.encoded_value.specs.Readings.{indexAt, startAt, namedWith, valueAt, arrayAt, annotationAt, pastArray, pastAnnotation, pastValue, pastNamed}
-use Rattle.encoded_value.specs.Rules.{ArrayWith, NamedWith, AnnotationWith, Value, ArrayBody, AnnotationBody}
+use Rattle.encoded_value.specs.Rules.{ArrayWith, AnnotationWith, Value, ArrayBody, AnnotationBody}
 use Rattle.encoded_value.specs.Answers.{step-outcome}
 use Rattle.encoded_value.proofs.Leaves.{on-step}
 use Rattle.encoded_value.proofs.Cycle.{turn-next, turn-stop, name-stop, named-next, named-stop}
@@ -32,8 +31,8 @@ use Rattle.encoded_value.proofs.Exactly.{index-exact, value-exact, named-with-e
 use Rattle.decoded_value.specs.Shown.{Shown, shown}
 use Rattle.decoded_value.specs.Readings.{read-out, decodedAt}
 use Rattle.decoded_value.proofs.Laws.{on-decoded}
-use Rattle.value_bodies.specs.Bodies.{pick, Noted, ShownElement, arrayCount, arrayValue, annotationNoted, annotationElement, valueThere, elementThere, kthValue, kthElement, valuesPast, elementsPast}
-use Rattle.value_bodies.proofs.Picks.{pick-there, pick-none, row-length, Reached, reached}
+use Rattle.value_bodies.specs.Bodies.{ShownElement, arrayCount, arrayValue, annotationNoted, annotationElement, valueThere, elementThere, kthValue, kthElement}
+use Rattle.value_bodies.proofs.Picks.{pick-there, pick-none, row-length, reached}
 
 -- what a call for a LEB128 number found
 got : {x : Leb} {o : Outcome (Found ℕ ℕ)} {v n : ℕ} → leb-outcome x ≡ o → x ≡ L.Got v n → o ≡ answer (record { item = v; next = n })

@@ -3,7 +3,7 @@ use Prim.Native.Nat.{ℕ, zero, suc}
 use mathlib.Core.List.{List, [], _∷_}
 use lib.ListN.{length}
 use Rattle.refusal.specs.Outcome.{Outcome, answer, refused, _>>=_}
-use Rattle.refusal.specs.Rows.{Found, repeat}
+use Rattle.refusal.specs.Rows.{repeat}
 use Rattle.encoded_value.specs.declared.Walk.{Walk}
 use Rattle.encoded_value.specs.Readings.{indexAt, arrayAt, annotationAt, pastValue, pastNamed}
 use Rattle.decoded_value.specs.Shown.{Shown, shown}

@@ -1,15 +1,14 @@
 -- What the printing of signed numbers asks for.
 -- Assumes nothing.
-use Prim.Native.Nat.{ℕ, zero, suc, _+_, _-_, _<_}
+use Prim.Native.Nat.{ℕ, zero, suc, _+_, _-_}
 use mathlib.Core.Path.{_≡_, refl, ap, sym, subst, _∙_}
 use mathlib.Core.Bool.{true, false}
 use lib.Dec.{T}
 use lib.IntN.{ℤ, pos, negsuc, natAbs, _-ℤ_}
 use lib.Signed.{ltZ, nonNeg}
-use native.Mathlib.Nat.{zero-add}
 use native.Mathlib.Omega.{arith}
 use borrow.Author.Tests.{ltb-true, lt-leb}
-use mir.Syntax.{Width, w64}
+use mir.Syntax.{w64}
 use mir.Val.{SFits, Fits, toZ, ofZ}
 use mir.Facts.{toZ-ofZ}
 
