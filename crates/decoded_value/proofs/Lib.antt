@@ -1,0 +1,5 @@
+pub mod Signs
+pub mod Floats
+pub mod Laws
+pub mod Once
+pub mod Examples

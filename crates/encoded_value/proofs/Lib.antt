@@ -1,0 +1,7 @@
+pub mod Numbers
+pub mod Leaves
+pub mod Cycle
+pub mod Exactly
+pub mod Bounds
+pub mod Nested
+pub mod Once

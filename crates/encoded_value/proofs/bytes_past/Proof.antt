@@ -1,0 +1,30 @@
+use Rattle.encoded_value.proofs.Leaves.{number-laws as laws}
+use Rattle.encoded_value.proofs.bytes_past.Statement.{statement}
+use Rattle.encoded_value.proofs.bytes_past.Tie as tie
+use Rattle.encoded_value.proofs.bytes_past.Reads as reads
+use Rattle.encoded_value.proofs.bytes_past.Lts as lts
+use Rattle.encoded_value.proofs.has_room.Reads as has-room-reads
+use Rattle.encoded_value.proofs.size_of.Reads as size-of-reads
+
+-- src/lib.rt:204:9
+size-of-requires : tie.Need-size-of-requires
+size-of-requires c κs = search laws
+
+-- src/lib.rt:205:8
+has-room-requires : tie.Need-has-room-requires
+has-room-requires c κs = search laws
+
+-- src/lib.rt:206:27
+add-t8 : tie.Need-add-t8
+add-t8 c = search laws
+
+-- src/lib.rt:206:9
+returns : tie.Need-returns
+returns c = search laws
+
+-- src/lib.rt:201:1
+returns-2 : tie.Need-returns-2
+returns-2 c = search laws
+
+pub bytes-past-spec : {M : Type 1} → statement M
+bytes-past-spec = tie.close (tie.spec size-of-requires has-room-requires add-t8 returns returns-2)

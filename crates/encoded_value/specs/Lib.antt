@@ -1,0 +1,6 @@
+pub mod Kinds
+pub mod Numbers
+pub mod Tree
+pub mod Readings
+pub mod Rules
+pub mod Answers

@@ -1,0 +1,4 @@
+pub mod Picks
+pub mod Laws
+pub mod Kth
+pub mod Once
