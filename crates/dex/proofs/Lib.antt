@@ -1,2 +1,4 @@
+pub mod Exactly
 pub mod HeadLaws
+pub mod StringLaws
 pub mod Once

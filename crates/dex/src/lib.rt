@@ -4,12 +4,16 @@ use map_list::Entry;
 use refusal::Refusal;
 
 mod head;
+mod strings;
 
 pub use head::handle_count;
 pub use head::header;
 pub use head::map_count;
 pub use head::map_entry;
 pub use head::signature;
+pub use strings::find_string;
+pub use strings::string;
+pub use strings::string_bytes;
 
 pub enum CountAnswer {
     Got(u32),

@@ -1,0 +1,30 @@
+-- The string table as a rule: what stands where, with no walk.
+use Prim.Native.Nat.{ℕ}
+use mathlib.Core.Path.{_≡_}
+use mathlib.Core.Bool.{false}
+use mathlib.Core.List.{List}
+use lib.ListN.{length}
+use Rattle.refusal.specs.Exact.{Each, Rising}
+use Rattle.word.specs.Words.{u32At}
+use Rattle.header.specs.declared.Header.{Header}
+use Rattle.header.specs.Header.{section}
+use Rattle.frame.specs.Offsets.{Allowed}
+use Rattle.text.specs.Text.{Text}
+use Rattle.text.specs.Rules.{StringRule}
+use Rattle.text.specs.Order.{Before}
+use Rattle.string_ids.specs.Strings.{placeOf}
+
+-- string n: the record names an item in the data section, and the text stands there
+pub record StringAt (f : List ℕ) (h : Header) (n : ℕ) (t : Text) : Type 0 where
+  pub item : ℕ
+  pub offset : u32At (h .order) f (placeOf h n) ≡ item
+  pub allowed : Allowed (h .start) (h .end) false item
+  pub text : StringRule (section f h) item t
+
+abbrev pub Precedes : Text → Text → Type 0
+Precedes a b = Before (a .units) (b .units)
+
+-- for each n below the count string n, and the strings rise
+pub record StringsRule (f : List ℕ) (h : Header) (l : List Text) : Type 0 where
+  pub each : Each (StringAt f h) (h .strings .count) l
+  pub order : Rising Precedes l

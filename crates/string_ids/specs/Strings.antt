@@ -1,0 +1,55 @@
+-- The string table as readings.
+use Prim.Native.Nat.{ℕ, _+_, _*_}
+use mathlib.Core.Bool.{Bool, false}
+use mathlib.Core.Option.{Option}
+use mathlib.Core.List.{List}
+use lib.ListN.{length}
+use Rattle.refusal.specs.Outcome.{Outcome, answer, _>>=_, given}
+use Rattle.refusal.specs.Rows.{in-turn}
+use Rattle.refusal.specs.Seek.{position}
+use Rattle.word.specs.Words.{u32At}
+use Rattle.header.specs.declared.Header.{Header}
+use Rattle.header.specs.Header.{section}
+use Rattle.frame.specs.Offsets.{allowed}
+use Rattle.text.specs.Text.{Text, stringAt, Extent, extent}
+use Rattle.text.specs.Order.{compared, byKey, isLess, isEqual}
+
+-- where the record of string n is
+abbrev pub placeOf : Header → ℕ → ℕ
+placeOf h n = h .strings .offset + 4 * n
+
+-- the record: where the item is, 8 at the record
+unfoldable pub recordOf : Header → ℕ → ℕ → Outcome ℕ
+recordOf h n offset = given (allowed (h .start) (h .end) false offset) 8 (placeOf h n) (answer offset)
+
+unfoldable pub recordAt : List ℕ → Header → ℕ → Outcome ℕ
+recordAt f h n = recordOf h n (u32At (h .order) f (placeOf h n))
+
+-- string n: its record, then its item
+unfoldable pub stringOf : List ℕ → Header → ℕ → Outcome Text
+stringOf f h n = recordAt f h n >>= stringAt (section f h)
+
+unfoldable pub stringExtent : List ℕ → Header → ℕ → Outcome Extent
+stringExtent f h n = stringOf f h n >>= extent
+
+-- "Strings rise strictly by 16-bit units"
+abbrev pub before : Text → Text → Bool
+before a b = isLess (compared (a .units) (b .units))
+
+-- all strings, each by its own rules, then by its order: "15, at the record"
+unfoldable pub stringsAt : List ℕ → Header → Outcome (List Text)
+stringsAt f h = in-turn (stringOf f h) before 15 (placeOf h) (h .strings .count)
+
+-- the same by the bytes of two texts: a stage of the code
+abbrev pub lessBytes : List ℕ → List ℕ → Bool
+lessBytes a b = isLess (byKey a b)
+
+-- has a string those bytes
+abbrev pub is : List ℕ → Text → Bool
+is text t = isEqual (byKey (t .bytes) text)
+
+-- "Looking up a text answers its number, or none .. The lookup applies each string's rules in index order first, the order rule included."
+unfoldable pub lookedUp : List ℕ → Header → List ℕ → Outcome (Option ℕ)
+lookedUp f h text = do
+  l ← stringsAt f h
+  answer (position (is text) l)

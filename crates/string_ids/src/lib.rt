@@ -1,0 +1,135 @@
+// The string table: its records, the texts that they name, and their order.
+use header::Header;
+use refusal::Refusal;
+use text::Order;
+use text::TextAnswer;
+ghost use mathlib.Core.Path.{_≡_};
+ghost use Rattle.text.specs.Answers.{text-outcome};
+ghost use Rattle.string_ids.specs.Strings.{placeOf, recordAt, stringExtent, lessBytes, lookedUp};
+ghost use Rattle.refusal.specs.Rows.{follows};
+ghost use Rattle.refusal.specs.Seek.{or-this};
+ghost use Rattle.word.specs.Bytes.{part};
+ghost use Rattle.text.specs.Order.{byKey, isEqual};
+ghost use Rattle.string_ids.specs.Answers.{item-outcome, last-bytes, lookup-outcome, found-number};
+
+// Where a string data item is.
+pub enum ItemAnswer {
+    At(usize),
+    Refused(Refusal),
+}
+
+// Where the last text's bytes lie, if there is one.
+pub enum Last {
+    Start,
+    After { start: usize, length: usize },
+}
+
+// A number, or none.
+pub enum Found {
+    Number(u32),
+    Nothing,
+}
+
+pub enum Lookup {
+    Got(Found),
+    Refused(Refusal),
+}
+
+// Where the record of string n is.
+pub fn place_of(h: Header, n: u32) -> usize
+    ensures { λ r. ⌜ r ≡ placeOf h n ⌝ }
+{
+    let strings = h.strings;
+    strings.offset as usize + 4 * n as usize
+}
+
+// Where the item of string n is: 8 at the record.
+fn record_at(f: &[u8], h: Header, n: u32) -> ItemAnswer
+    ensures { λ r. ⌜ item-outcome r ≡ recordAt (now (f .entry)) h n ⌝ }
+{
+    let order = h.order;
+    let place = place_of(h, n);
+    let offset = word::u32_at(f, place, order) as usize;
+    if frame::is_allowed(h.start, h.end, false, offset) {
+        return ItemAnswer::At(offset);
+    }
+    ItemAnswer::Refused(Refusal { number: 8, place })
+}
+
+// String n: its record, then its item.
+pub fn string_at(f: &[u8], h: Header, n: u32) -> TextAnswer
+    ensures { λ r. ⌜ text-outcome r ≡ stringExtent (now (f .entry)) h n ⌝ }
+{
+    match record_at(f, h, n) {
+        ItemAnswer::Refused(r) => TextAnswer::Refused(r),
+        ItemAnswer::At(item) => text::string_at(header::section_of(f, h), item),
+    }
+}
+
+// Does the text that lies there come after the last one.
+fn rises(s: &[u8], last: Last, start: usize, length: usize) -> bool
+    ensures { λ r. ⌜ r ≡ follows lessBytes (last-bytes (now (s .entry)) last) (part (now (s .entry)) start length) ⌝ }
+{
+    match last {
+        Last::Start => true,
+        Last::After {
+            start: p,
+            length: n,
+        } => match text::compare(word::bytes_at(s, p, n), word::bytes_at(s, start, length)) {
+            Order::Less => true,
+            Order::Equal => false,
+            Order::Greater => false,
+        },
+    }
+}
+
+// The number that was found before, or else k where the bytes are the text.
+fn found_with(found: Found, bytes: &[u8], text: &[u8], k: u32) -> Found
+    ensures { λ r. ⌜ found-number r ≡ or-this (found-number found) (isEqual (byKey (now (bytes .entry)) (now (text .entry)))) k ⌝ }
+{
+    match found {
+        Found::Number(j) => Found::Number(j),
+        Found::Nothing => match text::compare(bytes, text) {
+            Order::Less => Found::Nothing,
+            Order::Equal => Found::Number(k),
+            Order::Greater => Found::Nothing,
+        },
+    }
+}
+
+// All strings in turn, each by its own rules and then by its order, and the number of the one that is the text: one pass.
+pub fn look_up(f: &[u8], h: Header, text: &[u8]) -> Lookup
+    ensures { λ r. ⌜ lookup-outcome r ≡ lookedUp (now (f .entry)) h (now (text .entry)) ⌝ }
+{
+    let s = header::section_of(f, h);
+    let strings = h.strings;
+    let mut last = Last::Start;
+    let mut found = Found::Nothing;
+    let mut k: u32 = 0;
+    let mut left = strings.count;
+    while 0 < left {
+        match string_at(f, h, k) {
+            TextAnswer::Refused(r) => {
+                return Lookup::Refused(r);
+            }
+            TextAnswer::Got {
+                start,
+                length,
+                units: _,
+            } => {
+                if rises(s, last, start, length) {
+                    found = found_with(found, word::bytes_at(s, start, length), text, k);
+                    last = Last::After { start, length };
+                } else {
+                    return Lookup::Refused(Refusal {
+                        number: 15,
+                        place: place_of(h, k),
+                    });
+                }
+            }
+        }
+        k += 1;
+        left -= 1;
+    }
+    Lookup::Got(found)
+}
