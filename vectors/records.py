@@ -3,7 +3,7 @@
 
 
 def write(crate, cases, line):
-    records = b''.join(bytes([len(name)]) + name.encode() + len(data).to_bytes(2, 'little') + data for name, data in cases)
+    records = b''.join(bytes([len(name.encode())]) + name.encode() + len(data).to_bytes(2, 'little') + data for name, data in cases)
     assert len(records) <= 65536
     open(f'crates/{crate}/stdin', 'wb').write(records)
     open(f'crates/{crate}/stdout', 'w').write(''.join(line(name, data) + '\n' for name, data in cases))
