@@ -1,0 +1,41 @@
+-- A type list's reading finds exactly what the rule allows.
+-- Assumes nothing.
+use Prim.Native.Nat.{ℕ, _+_, _*_, _≤_, _<_}
+use mathlib.Core.Path.{_≡_, refl, sym, subst, _∙_}
+use mathlib.Core.List.{List}
+use lib.ListN.{length}
+use native.Mathlib.Omega.{arith}
+use Rattle.refusal.specs.Outcome.{answer}
+use Rattle.refusal.specs.Rows.{every}
+use Rattle.refusal.specs.Exact.{Exact, Each}
+use Rattle.refusal.proofs.Exact.{same, answer-exact, given-exact, exact-iff, below, at-most}
+use Rattle.refusal.proofs.Each.{every-exact}
+use Rattle.word.specs.Words.{u32At}
+use Rattle.type_list.specs.declared.Judge.{Judge}
+use Rattle.type_list.specs.TypeList.{entryNumber, entryAt, listOf, listAt}
+use Rattle.type_list.specs.Rules.{Entry, ListRule}
+
+module _ (s : List ℕ) (j : Judge) where
+  entry-exact : (k : ℕ) → Exact (entryAt s j k) (Entry s j k)
+  unfolding entryAt
+  entry-exact k =
+      exact-iff (given-exact 11 (j .at) (below (entryNumber s j k) (j .types)) (answer-exact _))
+      (λ t h. record { stands = h .1; range = subst (λ (x : ℕ). x < j .types) (h .1) (h .0) })
+      (λ t h. (subst (λ (x : ℕ). x < j .types) (sym (h .stands)) (h .range), h .stands))
+
+  all-exact : (count : ℕ) → Exact (every (entryAt s j) count) (Each (Entry s j) count)
+  all-exact = every-exact (Entry s j) (entryAt s j) entry-exact
+
+  -- as many entries as were asked for
+  pub counted : (count : ℕ) (l : List ℕ) → every (entryAt s j) count ≡ answer l → length l ≡ count
+  counted count l e = all-exact count .sound l e .count
+
+  pub list-exact : Exact (listAt s j) (ListRule s j)
+  unfolding listAt listOf
+  list-exact =
+      exact-iff (given-exact 9 (j .at) (at-most (j .at + 4) (length s)) (given-exact 9 (j .at) (at-most (j .at + 4 + 2 * u32At (j .order) s (j .at)) (length s)) (all-exact (u32At (j .order) s (j .at)))))
+      (λ l h. let size = h .1 .1 .count in let room = h .1 .0 in record { size = sym size; room = omega arith; entries = record { count = refl; each = h .1 .1 .each } })
+      (λ l h. let size = h .size in let room = h .room in (omega arith, (omega arith, record { count = sym size; each = h .entries .each })))
+
+  pub list-same : (a b : List ℕ) → ListRule s j a → ListRule s j b → a ≡ b
+  list-same = same list-exact

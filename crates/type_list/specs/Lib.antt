@@ -1,0 +1,3 @@
+pub mod TypeList
+pub mod Rules
+pub mod Answers
