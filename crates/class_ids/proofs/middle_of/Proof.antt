@@ -1,0 +1,52 @@
+use Rattle.class_ids.proofs.Laws.{own-laws as laws}
+use Rattle.class_ids.specs.Classes.{middleOf}
+use Rattle.class_ids.proofs.middle_of.Statement.{statement}
+use Rattle.class_ids.proofs.middle_of.Tie as tie
+use Rattle.class_ids.proofs.middle_of.Reads as reads
+use Rattle.class_ids.proofs.middle_of.Lts as lts
+use Rattle.class_ids.proofs.is_index_or_none.Reads as is-index-or-none-reads
+use Rattle.class_ids.proofs.places_of.Reads as places-of-reads
+use Rattle.frame.proofs.is_allowed_or_absent.Reads as is-allowed-or-absent-reads
+
+-- src/lib.rt:115:56
+cast-is-allowed-or-absent : tie.Need-cast-is-allowed-or-absent
+cast-is-allowed-or-absent c = search laws
+
+-- src/lib.rt:115:8
+is-allowed-or-absent-requires : tie.Need-is-allowed-or-absent-requires
+is-allowed-or-absent-requires c κs = search laws
+
+-- src/lib.rt:116:12
+is-index-or-none-requires : tie.Need-is-index-or-none-requires
+is-index-or-none-requires c κs = search laws
+
+-- src/lib.rt:117:13
+places-of-requires : tie.Need-places-of-requires
+places-of-requires c κs = search laws
+
+-- src/lib.rt:117:13
+returns : tie.Need-returns
+unfolding middleOf
+returns c = search laws
+
+-- src/lib.rt:119:9
+returns-2 : tie.Need-returns-2
+unfolding middleOf
+returns-2 c = search laws
+
+-- src/lib.rt:112:1
+returns-3 : tie.Need-returns-3
+unfolding middleOf
+returns-3 c = search laws
+
+pub middle-of-spec : {M : Type 1} → statement M
+middle-of-spec =
+    tie.close
+    (tie.spec
+    cast-is-allowed-or-absent
+    is-allowed-or-absent-requires
+    is-index-or-none-requires
+    places-of-requires
+    returns
+    returns-2
+    returns-3)

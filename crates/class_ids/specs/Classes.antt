@@ -1,0 +1,70 @@
+-- The records of classes as readings: own rules in stored order, at the record.
+use Prim.Native.Nat.{ℕ, _+_, _*_}
+use mathlib.Core.Bool.{Bool, true, false, cond, _||_}
+use mathlib.Core.List.{List}
+use lib.Dec.{ltb, eqb}
+use Rattle.refusal.specs.Outcome.{Outcome, answer, given}
+use Rattle.word.specs.Words.{u32At}
+use Rattle.word.specs.declared.Endian.{Endian}
+use Rattle.frame.specs.declared.Frame.{Frame}
+use Rattle.frame.specs.Offsets.{allowedOrAbsent}
+use Rattle.class_ids.specs.declared.Maybe.{Maybe}
+use Rattle.class_ids.specs.declared.Maybe.the-variants.{Number, Absent}
+use Rattle.class_ids.specs.declared.Class.{Class}
+use Rattle.class_ids.specs.declared.Words.{Words}
+
+-- "0xFFFFFFFF means none for superclass and source file only."
+unfoldable pub indexOrNone : ℕ → ℕ → Bool
+indexOrNone v count = eqb v 0xffffffff || ltb v count
+
+unfoldable pub maybeOf : ℕ → Maybe
+maybeOf v = cond (eqb v 0xffffffff) Absent (Number v)
+
+abbrev pub wordsAt : List ℕ → Endian → ℕ → ℕ → Words
+wordsAt f o offset n = record {
+  class = u32At o f (offset + 32 * n);
+  flags = u32At o f (offset + 32 * n + 4);
+  superclass = u32At o f (offset + 32 * n + 8);
+  interfaces = u32At o f (offset + 32 * n + 12);
+  source = u32At o f (offset + 32 * n + 16);
+  directory = u32At o f (offset + 32 * n + 20);
+  «data» = u32At o f (offset + 32 * n + 24);
+  values = u32At o f (offset + 32 * n + 28);
+}
+
+abbrev pub classOf : Words → Class
+classOf w = record {
+  class = w .class;
+  flags = w .flags;
+  superclass = maybeOf (w .superclass);
+  interfaces = w .interfaces;
+  source = maybeOf (w .source);
+  directory = w .directory;
+  «data» = w .«data»;
+  values = w .values;
+}
+
+-- directory (8), class data (8), static values (8)
+unfoldable pub placesOf : ℕ → ℕ → ℕ → Words → Outcome Class
+placesOf start end place w =
+    given (allowedOrAbsent start end true (w .directory)) 8 place
+    (given (allowedOrAbsent start end false (w .«data»)) 8 place
+    (given (allowedOrAbsent start end false (w .values)) 8 place
+    (answer (classOf w))))
+
+-- interfaces (8), source file (11 or none), then the places
+unfoldable pub middleOf : Frame → ℕ → ℕ → Words → Outcome Class
+middleOf r end place w =
+    given (allowedOrAbsent (r .start) end true (w .interfaces)) 8 place
+    (given (indexOrNone (w .source) (r .strings)) 11 place
+    (placesOf (r .start) end place w))
+
+-- class (11), superclass (11 or none), then the others in stored order
+unfoldable pub firstOf : Frame → ℕ → ℕ → Words → Outcome Class
+firstOf r end place w =
+    given (ltb (w .class) (r .types)) 11 place
+    (given (indexOrNone (w .superclass) (r .types)) 11 place
+    (middleOf r end place w))
+
+unfoldable pub classAt : List ℕ → Frame → ℕ → ℕ → ℕ → Outcome Class
+classAt f r end offset n = firstOf r end (offset + 32 * n) (wordsAt f (r .order) offset n)
