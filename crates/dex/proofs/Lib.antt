@@ -1,4 +1,5 @@
 pub mod Exactly
 pub mod HeadLaws
 pub mod StringLaws
+pub mod TableLaws
 pub mod Once

@@ -1,3 +1,4 @@
 pub mod Head
 pub mod Strings
+pub mod Tables
 pub mod Answers

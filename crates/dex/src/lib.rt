@@ -5,6 +5,7 @@ use refusal::Refusal;
 
 mod head;
 mod strings;
+mod tables;
 
 pub use head::handle_count;
 pub use head::header;
@@ -14,6 +15,12 @@ pub use head::signature;
 pub use strings::find_string;
 pub use strings::string;
 pub use strings::string_bytes;
+pub use tables::class;
+pub use tables::field;
+pub use tables::handle;
+pub use tables::method;
+pub use tables::proto;
+pub use tables::type_name;
 
 pub enum CountAnswer {
     Got(u32),
