@@ -2,4 +2,5 @@ pub mod Exactly
 pub mod HeadLaws
 pub mod StringLaws
 pub mod TableLaws
+pub mod ListLaws
 pub mod Once

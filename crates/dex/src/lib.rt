@@ -4,6 +4,7 @@ use map_list::Entry;
 use refusal::Refusal;
 
 mod head;
+mod lists;
 mod strings;
 mod tables;
 
@@ -12,6 +13,10 @@ pub use head::header;
 pub use head::map_count;
 pub use head::map_entry;
 pub use head::signature;
+pub use lists::interface;
+pub use lists::interface_count;
+pub use lists::parameter;
+pub use lists::parameter_count;
 pub use strings::find_string;
 pub use strings::string;
 pub use strings::string_bytes;
