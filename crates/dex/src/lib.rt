@@ -3,11 +3,13 @@
 use map_list::Entry;
 use refusal::Refusal;
 
+mod flags;
 mod head;
 mod lists;
 mod strings;
 mod tables;
 
+pub use flags::class_flags;
 pub use head::handle_count;
 pub use head::header;
 pub use head::map_count;
