@@ -1,4 +1,5 @@
 pub mod Outcome
 pub mod Rows
+pub mod Choose
 pub mod Seek
 pub mod Exact

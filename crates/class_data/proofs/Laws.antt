@@ -1,0 +1,184 @@
+-- What the functions' proofs cite: the loop of `members_at`, the stages of the whole, and lists by their numbers.
+-- Assumes nothing.
+use Prim.Native.Nat.{ℕ, _+_, _-_, _<_, _≤_}
+use mathlib.Core.Path.{_≡_, refl, ap, sym, _∙_}
+use mathlib.Core.Bool.{Bool, true, false, cond}
+use mathlib.Core.List.{List, []}
+use lib.ListN.{length, getD}
+use lib.Dec.{ltb, eqb}
+use borrow.Author.Needs.{needs}
+use borrow.Author.Tests.{lt-ltb, le-ltb}
+use native.Mathlib.Omega.{arith}
+use Rattle.refusal.specs.declared.Refusal.{Refusal}
+use Rattle.refusal.specs.Outcome.{Outcome, answer, refused, _>>=_, given}
+use Rattle.refusal.specs.Rows.{Found}
+use Rattle.refusal.specs.Choose.{choose}
+use Rattle.refusal.proofs.Laws.{said, tests, calls, bind-answer, bind-refused, passes, fails}
+use Rattle.refusal.proofs.Rows.{bind-assoc}
+use Rattle.refusal.proofs.Choose.{Choosing, choosing-first, choosing-next, choosing-stop, choosing-done, chosen-by}
+use Rattle.leb128.proofs.Laws.{on-leb}
+use Rattle.frame.specs.declared.Frame.{Frame}
+use Rattle.class_data.specs.declared.Member.{Member}
+use Rattle.class_data.specs.declared.Judge.{Judge}
+use Rattle.class_data.specs.declared.Counts.{Counts}
+use Rattle.class_data.specs.declared.Four.{Four}
+use Rattle.class_data.specs.declared.MemberFound.{MemberFound}
+use Rattle.class_data.specs.declared.MemberFound.the-variants as F
+use Rattle.class_data.specs.declared.Pair.{Pair}
+use Rattle.class_data.specs.declared.CountsAnswer.{CountsAnswer}
+use Rattle.class_data.specs.declared.TwoAnswer.{TwoAnswer}
+use Rattle.class_data.specs.declared.KeptAnswer.{KeptAnswer}
+use Rattle.class_data.specs.declared.DataAnswer.{DataAnswer}
+use Rattle.class_data.specs.declared.MemberAnswer.{MemberAnswer}
+use Rattle.class_data.specs.Members.{memberAt, Run, stepAt, nobody, begin, membersAt, placed, keptMembers}
+use Rattle.class_data.specs.Data.{Both, countsAt, Two, twoAt, fields-judge, methods-judge, ClassData, classDataAt, counts, extentAt, one-of-four, listOf, memberOf, KeptTwo, keptTwo, Kept, keptAt, countIn, memberIn}
+use Rattle.class_data.specs.Answers.{found-outcome, pair-outcome, counts-outcome, two-outcome, kept-outcome, data-outcome, member-outcome}
+
+-- ---- the loop of `members_at` at its head
+pub record Members (s : List ℕ) (j : Judge) (item from count k left p : ℕ) (last : Member) (later : Bool) (i : ℕ) (kept : Member) : Type 0 where
+  choosing : Choosing (stepAt s j item) count (begin from) nobody k left (record { place = p; last = last; later = later }) i kept
+  pub sum : i + left ≡ count
+
+pub members-first : (s : List ℕ) (j : Judge) (item from count k : ℕ) → Members s j item from count k count from nobody false 0 nobody
+members-first s j item from count k = record { choosing = choosing-first (stepAt s j item) count (begin from) nobody k; sum = omega arith }
+
+module _ {s : List ℕ} {j : Judge} {item from count k left p : ℕ} {last : Member} {later : Bool} {i : ℕ} {kept : Member} (h : Members s j item from count k left p last later i kept)
+    {x : MemberFound} (l : 0 < left) (e : found-outcome x ≡ memberAt s j item (last .index) later p) where
+  pub members-next : {a new : Member} {n : ℕ} → x ≡ F.Got a n → new ≡ cond (eqb i k) a kept → Members s j item from count k (left - 1) n a true (i + 1) new
+  unfolding stepAt
+  members-next t w = record { choosing = choosing-next (h .choosing) l (sym (bind-answer _ (sym (sym (ap found-outcome t) ∙ e)))) w; sum = let z = h .sum in omega arith }
+
+  pub members-stop : {r : Refusal} → x ≡ F.Refused r → refused r ≡ keptMembers s j item from count k
+  unfolding keptMembers stepAt
+  members-stop t = sym (bind-refused placed (sym (choosing-stop (h .choosing) l (sym (bind-refused _ (sym (sym (ap found-outcome t) ∙ e)))))))
+
+pub members-done : {s : List ℕ} {j : Judge} {item from count k left p : ℕ} {last : Member} {later : Bool} {i : ℕ} {kept : Member} → Members s j item from count k left p last later i kept
+    → left ≤ 0 → answer (record { item = kept; next = p }) ≡ keptMembers s j item from count k
+unfolding keptMembers
+members-done h l = sym (bind-answer placed (sym (choosing-done (h .choosing) l)))
+
+-- ---- calls, by the arm that was taken
+pub on-found : {B : Type 0} {x c : MemberFound} {o : Outcome (Found Member ℕ)} {y : Outcome B} (k : Found Member ℕ → Outcome B)
+    → found-outcome x ≡ o → x ≡ c → y ≡ (found-outcome c >>= k) → y ≡ (o >>= k)
+on-found = said found-outcome
+
+pub on-pair : {B : Type 0} {x c : Pair} {o : Outcome (Found Both ℕ)} {y : Outcome B} (k : Found Both ℕ → Outcome B)
+    → pair-outcome x ≡ o → x ≡ c → y ≡ (pair-outcome c >>= k) → y ≡ (o >>= k)
+on-pair = said pair-outcome
+
+pub on-counts : {B : Type 0} {x c : CountsAnswer} {o : Outcome (Found Counts ℕ)} {y : Outcome B} (k : Found Counts ℕ → Outcome B)
+    → counts-outcome x ≡ o → x ≡ c → y ≡ (counts-outcome c >>= k) → y ≡ (o >>= k)
+on-counts = said counts-outcome
+
+pub on-two : {B : Type 0} {x c : TwoAnswer} {o : Outcome KeptTwo} {y : Outcome B} (k : KeptTwo → Outcome B) → two-outcome x ≡ o → x ≡ c → y ≡ (two-outcome c >>= k) → y ≡ (o >>= k)
+on-two = said two-outcome
+
+pub on-kept : {B : Type 0} {x c : KeptAnswer} {o : Outcome Kept} {y : Outcome B} (k : Kept → Outcome B) → kept-outcome x ≡ o → x ≡ c → y ≡ (kept-outcome c >>= k) → y ≡ (o >>= k)
+on-kept = said kept-outcome
+
+pub on-data : {B : Type 0} {x c : DataAnswer} {o : Outcome (Found Counts ℕ)} {y : Outcome B} (k : Found Counts ℕ → Outcome B)
+    → data-outcome x ≡ o → x ≡ c → y ≡ (data-outcome c >>= k) → y ≡ (o >>= k)
+on-data = said data-outcome
+
+pub on-member : {B : Type 0} {x c : MemberAnswer} {o : Outcome Member} {y : Outcome B} (k : Member → Outcome B)
+    → member-outcome x ≡ o → x ≡ c → y ≡ (member-outcome c >>= k) → y ≡ (o >>= k)
+on-member = said member-outcome
+
+-- ---- the stages: of each list one member and the count are kept
+module _ (s : List ℕ) (item k : ℕ) {B : Type 0} where
+  members-by : (j : Judge) (from n : ℕ) (f : Found (List Member) Run → Outcome B) (g : Found Member ℕ → Outcome B)
+      → ((r : Found (List Member) Run) → length (r .item) ≡ n → f r ≡ g (record { item = getD (r .item) k nobody; next = r .next .place }))
+      → (membersAt s j item from n >>= f) ≡ (keptMembers s j item from n k >>= g)
+  unfolding membersAt keptMembers
+  members-by j from n f g h =
+      chosen-by n (stepAt s j item) nobody k (begin from) f (λ (r : Found Member Run). placed r >>= g) (λ r size. h r size ∙ sym (bind-answer g refl))
+      ∙ sym (bind-assoc (choose n (stepAt s j item) nobody k (begin from)) placed g)
+
+  two-by : (j : Judge) (from m n : ℕ) (f : Found Two ℕ → Outcome B) (g : KeptTwo → Outcome B)
+      → ((t : Found Two ℕ) → length (t .item .first) ≡ m → length (t .item .second) ≡ n
+      → f t ≡ g (record { first = getD (t .item .first) k nobody; second = getD (t .item .second) k nobody; next = t .next }))
+      → (twoAt s j item from m n >>= f) ≡ (keptTwo s j item from m n k >>= g)
+  unfolding twoAt keptTwo
+  two-by j from m n f g h =
+      bind-assoc (membersAt s j item from m) _ f
+      ∙ members-by j from m _ (λ (x : Found Member ℕ). keptMembers s j item (x .next) n k >>= λ (y : Found Member ℕ). g (record { first = x .item; second = y .item; next = y .next }))
+      (λ x size. bind-assoc (membersAt s j item (x .next .place) n) _ f
+      ∙ members-by j (x .next .place) n _ _ (λ y more. bind-answer f refl ∙ h (record { item = record { first = x .item; second = y .item }; next = y .next .place }) size more))
+      ∙ sym (bind-assoc (keptMembers s j item from m k) _ g ∙ λ i. keptMembers s j item from m k >>= λ (x : Found Member ℕ). inner x i)
+    where
+      inner : (x : Found Member ℕ)
+          → ((keptMembers s j item (x .next) n k >>= λ (y : Found Member ℕ). answer (record { first = x .item; second = y .item; next = y .next })) >>= g)
+          ≡ (keptMembers s j item (x .next) n k >>= λ (y : Found Member ℕ). g (record { first = x .item; second = y .item; next = y .next }))
+      inner x = bind-assoc (keptMembers s j item (x .next) n k) _ g ∙ λ i. keptMembers s j item (x .next) n k >>= λ (y : Found Member ℕ). bind-answer {o = answer (record { first = x .item; second = y .item; next = y .next })} g refl i
+
+abbrev holding : ℕ → ClassData → Outcome Kept
+holding k d = answer (record {
+  counts = counts d;
+  members = record { statics = getD (d .statics) k nobody; instances = getD (d .instances) k nobody; directs = getD (d .directs) k nobody; virtuals = getD (d .virtuals) k nobody };
+  end = d .end;
+})
+
+module _ (s : List ℕ) (f : Frame) (item : ℕ) where
+  kept-whole : (k : ℕ) → (classDataAt s f item >>= holding k) ≡ keptAt s f item k
+  unfolding classDataAt keptAt
+  kept-whole k = bind-assoc (countsAt s item) _ (holding k) ∙ λ i. countsAt s item >>= λ (c : Found Counts ℕ). lists c i
+    where
+      lists : (c : Found Counts ℕ) → ((twoAt s (fields-judge f) item (c .next) (c .item .statics) (c .item .instances) >>= λ (x : Found Two ℕ).
+          twoAt s (methods-judge f) item (x .next) (c .item .directs) (c .item .virtuals) >>= λ (y : Found Two ℕ).
+          answer (record { statics = x .item .first; instances = x .item .second; directs = y .item .first; virtuals = y .item .second; end = y .next })) >>= holding k)
+          ≡ (keptTwo s (fields-judge f) item (c .next) (c .item .statics) (c .item .instances) k >>= λ (x : KeptTwo).
+          keptTwo s (methods-judge f) item (x .next) (c .item .directs) (c .item .virtuals) k >>= λ (y : KeptTwo).
+          answer (record { counts = c .item; members = record { statics = x .first; instances = x .second; directs = y .first; virtuals = y .second }; end = y .next }))
+      lists c =
+          bind-assoc (twoAt s (fields-judge f) item (c .next) (c .item .statics) (c .item .instances)) _ (holding k)
+          ∙ two-by s item k (fields-judge f) (c .next) (c .item .statics) (c .item .instances) _ _
+          (λ x a b. bind-assoc (twoAt s (methods-judge f) item (x .next) (c .item .directs) (c .item .virtuals)) _ (holding k)
+          ∙ two-by s item k (methods-judge f) (x .next) (c .item .directs) (c .item .virtuals) _ _
+          (λ y u v. bind-answer (holding k) refl ∙ λ i. answer (record {
+            counts = record { statics = a i; instances = b i; directs = u i; virtuals = v i };
+            members = record { statics = getD (x .item .first) k nobody; instances = getD (x .item .second) k nobody; directs = getD (y .item .first) k nobody; virtuals = getD (y .item .second) k nobody };
+            end = y .next;
+          })))
+
+  pub extent-by : {y : Outcome (Found Counts ℕ)} → y ≡ (keptAt s f item 0 >>= λ (h : Kept). answer (record { item = h .counts; next = h .end })) → y ≡ extentAt s f item
+  unfolding extentAt _>>=_
+  extent-by e = e ∙ ap (λ (o : Outcome Kept). o >>= λ (h : Kept). answer (record { item = h .counts; next = h .end })) (sym (kept-whole 0)) ∙ bind-assoc (classDataAt s f item) (holding 0) _
+
+  -- a list by its number, in the list, its count and its member
+  through : {A B : Type 0} (g : A → B) (list : ℕ) (a b c d e : A) → g (one-of-four list a b c d e) ≡ one-of-four list (g a) (g b) (g c) (g d) (g e)
+  through {A} {B} g list a b c d e = go (eqb list 0) a _ _ (go (eqb list 1) b _ _ (go (eqb list 2) c _ _ (go (eqb list 3) d _ _ refl)))
+    where
+      go : (t : Bool) (x y : A) (z : B) → g y ≡ z → g (cond t x y) ≡ cond t (g x) z
+      go true x y z p = refl
+      go false x y z p = p
+
+  pub member-by : (list k : ℕ) {y : Outcome Member} → y ≡ (keptAt s f item k >>= λ (h : Kept). given (ltb k (countIn list (h .counts))) 7 0 (answer (memberIn list (h .members)))) → y ≡ memberOf s f item list k
+  unfolding memberOf countIn memberIn
+  member-by list k e =
+      e ∙ ap (λ (o : Outcome Kept). o >>= λ (h : Kept). given (ltb k (countIn list (h .counts))) 7 0 (answer (memberIn list (h .members)))) (sym (kept-whole k))
+      ∙ bind-assoc (classDataAt s f item) (holding k) _
+      ∙ λ i. classDataAt s f item >>= λ (d : ClassData). (bind-answer {o = holding k d} (λ (h : Kept). given (ltb k (countIn list (h .counts))) 7 0 (answer (memberIn list (h .members)))) refl ∙ same d) i
+    where
+      same : (d : ClassData) → given (ltb k (one-of-four list (length (d .statics)) (length (d .instances)) (length (d .directs)) (length (d .virtuals)) 0)) 7 0
+          (answer (one-of-four list (getD (d .statics) k nobody) (getD (d .instances) k nobody) (getD (d .directs) k nobody) (getD (d .virtuals) k nobody) nobody))
+          ≡ given (ltb k (length (listOf list d))) 7 0 (answer (getD (listOf list d) k nobody))
+      same d = λ i. given (ltb k (sym (through length list (d .statics) (d .instances) (d .directs) (d .virtuals) []) i)) 7 0
+          (answer (sym (through (λ (l : List Member). getD l k nobody) list (d .statics) (d .instances) (d .directs) (d .virtuals) []) i))
+
+-- the count and the member that were asked for
+module _ (list k : ℕ) (c : Counts) (m : Four) {n : ℕ} (e : n ≡ countIn list c) where
+  pub member-there : {a : Member} → k < n → a ≡ memberIn list m → answer a ≡ given (ltb k (countIn list c)) 7 0 (answer (memberIn list m))
+  member-there p q = passes 7 0 (lt-ltb k (countIn list c) (omega arith)) (ap answer q)
+
+  pub member-lacks : n ≤ k → refused (record { number = 7; place = 0 }) ≡ given (ltb k (countIn list c)) 7 0 (answer (memberIn list m))
+  member-lacks p = fails _ (le-ltb k (countIn list c) (omega arith))
+
+-- ---- what this crate's functions are searched with
+pub ruleset part-laws = (on-leb, on-found, on-pair, calls, tests, needs)
+
+pub ruleset loop-laws = (members-first, members-next, members-stop, members-done, needs)
+
+pub ruleset stage-laws = (on-counts, on-two, on-kept, extent-by, member-by, member-there, member-lacks, calls, tests, needs)
+
+-- what a caller's functions are
+pub ruleset laws = (on-data, on-member)

@@ -1,0 +1,42 @@
+-- What the answers of the code say.
+use Prim.Native.Nat.{ℕ}
+use Rattle.refusal.specs.Outcome.{Outcome, answer, refused}
+use Rattle.refusal.specs.Rows.{Found}
+use Rattle.class_data.specs.Data.{Both, KeptTwo, Kept}
+use Rattle.class_data.specs.declared.Member.{Member}
+use Rattle.class_data.specs.declared.Counts.{Counts}
+use Rattle.class_data.specs.declared.MemberFound as F
+use Rattle.class_data.specs.declared.Pair as P
+use Rattle.class_data.specs.declared.CountsAnswer as C
+use Rattle.class_data.specs.declared.TwoAnswer as T
+use Rattle.class_data.specs.declared.KeptAnswer as K
+use Rattle.class_data.specs.declared.DataAnswer as D
+use Rattle.class_data.specs.declared.MemberAnswer as M
+
+abbrev pub found-outcome : F.MemberFound → Outcome (Found Member ℕ)
+found-outcome (F.the-variants.Got m n) = answer (record { item = m; next = n })
+found-outcome (F.the-variants.Refused r) = refused r
+
+abbrev pub pair-outcome : P.Pair → Outcome (Found Both ℕ)
+pair-outcome (P.the-variants.Got a b n) = answer (record { item = record { first = a; second = b }; next = n })
+pair-outcome (P.the-variants.Refused r) = refused r
+
+abbrev pub counts-outcome : C.CountsAnswer → Outcome (Found Counts ℕ)
+counts-outcome (C.the-variants.Got c n) = answer (record { item = c; next = n })
+counts-outcome (C.the-variants.Refused r) = refused r
+
+abbrev pub two-outcome : T.TwoAnswer → Outcome KeptTwo
+two-outcome (T.the-variants.Got a b n) = answer (record { first = a; second = b; next = n })
+two-outcome (T.the-variants.Refused r) = refused r
+
+abbrev pub kept-outcome : K.KeptAnswer → Outcome Kept
+kept-outcome (K.the-variants.Got c m e) = answer (record { counts = c; members = m; end = e })
+kept-outcome (K.the-variants.Refused r) = refused r
+
+abbrev pub data-outcome : D.DataAnswer → Outcome (Found Counts ℕ)
+data-outcome (D.the-variants.Got c e) = answer (record { item = c; next = e })
+data-outcome (D.the-variants.Refused r) = refused r
+
+abbrev pub member-outcome : M.MemberAnswer → Outcome Member
+member-outcome (M.the-variants.Got m) = answer m
+member-outcome (M.the-variants.Refused r) = refused r

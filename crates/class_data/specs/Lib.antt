@@ -1,0 +1,4 @@
+pub mod Members
+pub mod Data
+pub mod Rules
+pub mod Answers

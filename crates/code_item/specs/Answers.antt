@@ -1,0 +1,54 @@
+-- What the answers of the code say.
+use Prim.Native.Nat.{ℕ}
+use mathlib.Core.Option.{Option, none, some}
+use Rattle.refusal.specs.Outcome.{Outcome, answer, refused}
+use Rattle.handlers.specs.declared.Pair.{Pair}
+use Rattle.code_item.specs.Code.{Linked, Handed, Kept}
+use Rattle.code_item.specs.declared.Head.{Head}
+use Rattle.code_item.specs.declared.Try.{Try}
+use Rattle.code_item.specs.declared.Outline.{Outline}
+use Rattle.code_item.specs.declared.HeadAnswer as E
+use Rattle.code_item.specs.declared.TryFound as F
+use Rattle.code_item.specs.declared.Number as N
+use Rattle.code_item.specs.declared.KeptAnswer as K
+use Rattle.code_item.specs.declared.CodeAnswer as C
+use Rattle.code_item.specs.declared.TryAnswer as T
+use Rattle.code_item.specs.declared.Catch as A
+use Rattle.code_item.specs.declared.HandlerAnswer as H
+use Rattle.code_item.specs.declared.PairAnswer as P
+
+abbrev pub head-outcome : E.HeadAnswer → Outcome Head
+head-outcome (E.the-variants.Got h) = answer h
+head-outcome (E.the-variants.Refused r) = refused r
+
+abbrev pub try-found : F.TryFound → Outcome Try
+try-found (F.the-variants.Got t) = answer t
+try-found (F.the-variants.Refused r) = refused r
+
+abbrev pub number-outcome : N.Number → Outcome ℕ
+number-outcome (N.the-variants.Got n) = answer n
+number-outcome (N.the-variants.Refused r) = refused r
+
+abbrev pub kept-outcome : K.KeptAnswer → Outcome Kept
+kept-outcome (K.the-variants.Got h a l n b f d e) = answer (record { head = h; attempt = a; link = l; handlers = n; brief = b; from = f; base = d; end = e })
+kept-outcome (K.the-variants.Refused r) = refused r
+
+abbrev pub code-outcome : C.CodeAnswer → Outcome Outline
+code-outcome (C.the-variants.Got o) = answer o
+code-outcome (C.the-variants.Refused r) = refused r
+
+abbrev pub try-outcome : T.TryAnswer → Outcome Linked
+try-outcome (T.the-variants.Got t n) = answer (record { attempt = t; number = n })
+try-outcome (T.the-variants.Refused r) = refused r
+
+abbrev pub catch-meant : A.Catch → Option ℕ
+catch-meant A.the-variants.Absent = none
+catch-meant (A.the-variants.At a) = some a
+
+abbrev pub handler-outcome : H.HandlerAnswer → Outcome Handed
+handler-outcome (H.the-variants.Got o p a) = answer (record { offset = o; pairs = p; all = catch-meant a })
+handler-outcome (H.the-variants.Refused r) = refused r
+
+abbrev pub pair-outcome : P.PairAnswer → Outcome Pair
+pair-outcome (P.the-variants.Got p) = answer p
+pair-outcome (P.the-variants.Refused r) = refused r

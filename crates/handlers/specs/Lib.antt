@@ -1,0 +1,3 @@
+pub mod Handlers
+pub mod Rules
+pub mod Answers

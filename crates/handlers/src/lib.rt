@@ -1,0 +1,313 @@
+// The handler list of a code item: for each handler its pairs of a type and an address, and a catch-all.
+// `s` ends where the data section ends, `item` is the place of the code item, `base` that of the list.
+use leb128::Leb;
+use leb128::SignedLeb;
+use refusal::Refusal;
+ghost use mathlib.Core.Path.{_≡_};
+ghost use mathlib.Core.Bool.{cond};
+ghost use Prim.Native.Nat.{_-_};
+ghost use Rattle.leb128.specs.Answers.{leb-outcome};
+ghost use Rattle.handlers.specs.Handlers.{catches, addressAt, pairAt, keptPairs, allAt, restAt, keptHandler, keptList, keptAt};
+ghost use Rattle.handlers.specs.Answers.{pair-outcome, all-outcome, brief-outcome, list-outcome};
+
+// The number of a type, and the address of the code that handles it.
+pub struct Pair {
+    pub kind: u32,
+    pub address: u32,
+}
+
+// What items are judged by: how many types there are, how many units, and where the handler list begins.
+pub struct Judge {
+    pub types: u32,
+    pub units: u32,
+    pub item: usize,
+    pub base: usize,
+}
+
+// A handler with one of its pairs: its offset from the list's first byte, how many pairs, and the catch-all's address where there is one.
+pub struct Brief {
+    pub offset: usize,
+    pub pairs: u32,
+    pub pair: Pair,
+    pub caught: bool,
+    pub all: u32,
+}
+
+pub enum PairFound {
+    Got { pair: Pair, next: usize },
+    Refused(Refusal),
+}
+
+// Whether there is a catch-all, and its address.
+pub enum AllFound {
+    Got { caught: bool, all: u32, next: usize },
+    Refused(Refusal),
+}
+
+pub enum BriefFound {
+    Got { brief: Brief, next: usize },
+    Refused(Refusal),
+}
+
+// How many handlers, one of them, where the first begins, and the place after the list.
+pub enum ListAnswer {
+    Got {
+        count: u32,
+        brief: Brief,
+        first: usize,
+        end: usize,
+    },
+    Refused(Refusal),
+}
+
+// Has a handler of this size a catch-all.
+fn is_catching(size: i32) -> bool
+    ensures { λ r. ⌜ r ≡ catches size ⌝ }
+{
+    if 0 < size {
+        return false;
+    }
+    true
+}
+
+// An address: below the unit count.
+fn address_at(s: &[u8], j: Judge, at: usize) -> Leb
+    ensures { λ r. ⌜ leb-outcome r ≡ addressAt (now (s .entry)) j at ⌝ }
+{
+    let item = j.item;
+    match leb128::uleb(s, at, item) {
+        Leb::Refused(r) => Leb::Refused(r),
+        Leb::Got { value, next } => {
+            if value < j.units {
+                return Leb::Got { value, next };
+            }
+            Leb::Refused(Refusal {
+                number: 17,
+                place: item,
+            })
+        }
+    }
+}
+
+// A pair: a type, and then an address.
+fn pair_found(s: &[u8], j: Judge, at: usize) -> PairFound
+    ensures { λ r. ⌜ pair-outcome r ≡ pairAt (now (s .entry)) j at ⌝ }
+{
+    let item = j.item;
+    match leb128::uleb(s, at, item) {
+        Leb::Refused(r) => PairFound::Refused(r),
+        Leb::Got { value: kind, next } => {
+            if kind < j.types {
+                return match address_at(s, j, next) {
+                    Leb::Refused(r) => PairFound::Refused(r),
+                    Leb::Got {
+                        value: address,
+                        next: after,
+                    } => PairFound::Got {
+                        pair: Pair { kind, address },
+                        next: after,
+                    },
+                };
+            }
+            PairFound::Refused(Refusal {
+                number: 11,
+                place: item,
+            })
+        }
+    }
+}
+
+// The new pair where it is the one asked for, or else the one that was kept.
+fn newer_pair(asked: bool, new: Pair, old: Pair) -> Pair
+    ensures { λ r. ⌜ r ≡ cond asked new old ⌝ }
+{
+    if asked {
+        return new;
+    }
+    old
+}
+
+// All pairs of a handler, of which number k is kept.
+fn pairs_at(s: &[u8], j: Judge, from: usize, count: u32, k: u32) -> PairFound
+    ensures { λ r. ⌜ pair-outcome r ≡ keptPairs (now (s .entry)) j from count k ⌝ }
+{
+    let mut p = from;
+    let mut kept = Pair {
+        kind: 0,
+        address: 0,
+    };
+    let mut i: u32 = 0;
+    let mut left = count;
+    while 0 < left {
+        match pair_found(s, j, p) {
+            PairFound::Refused(r) => {
+                return PairFound::Refused(r);
+            }
+            PairFound::Got { pair, next } => {
+                kept = newer_pair(i == k, pair, kept);
+                p = next;
+            }
+        }
+        i += 1;
+        left -= 1;
+    }
+    PairFound::Got {
+        pair: kept,
+        next: p,
+    }
+}
+
+// The catch-all of a handler of this size.
+fn all_at(s: &[u8], j: Judge, size: i32, at: usize) -> AllFound
+    ensures { λ r. ⌜ all-outcome r ≡ allAt (now (s .entry)) j size at ⌝ }
+{
+    if is_catching(size) {
+        return match address_at(s, j, at) {
+            Leb::Refused(r) => AllFound::Refused(r),
+            Leb::Got { value, next } => AllFound::Got {
+                caught: true,
+                all: value,
+                next,
+            },
+        };
+    }
+    AllFound::Got {
+        caught: false,
+        all: 0,
+        next: at,
+    }
+}
+
+// How far a place is from another, 0 where it is before.
+fn offset_of(at: usize, base: usize) -> usize
+    ensures { λ r. ⌜ r ≡ at - base ⌝ }
+{
+    if at < base {
+        return 0;
+    }
+    at - base
+}
+
+// What follows a handler's size.
+fn rest_at(
+    s: &[u8],
+    j: Judge,
+    offset: usize,
+    pairs: u32,
+    size: i32,
+    from: usize,
+    k: u32,
+) -> BriefFound
+    ensures { λ r. ⌜ brief-outcome r ≡ restAt (now (s .entry)) j offset pairs size from k ⌝ }
+{
+    match pairs_at(s, j, from, pairs, k) {
+        PairFound::Refused(r) => BriefFound::Refused(r),
+        PairFound::Got { pair, next } => match all_at(s, j, size, next) {
+            AllFound::Refused(r) => BriefFound::Refused(r),
+            AllFound::Got {
+                caught,
+                all,
+                next: end,
+            } => BriefFound::Got {
+                brief: Brief {
+                    offset,
+                    pairs,
+                    pair,
+                    caught,
+                    all,
+                },
+                next: end,
+            },
+        },
+    }
+}
+
+// A handler, of which pair k is kept.
+pub fn handler_found(s: &[u8], j: Judge, at: usize, k: u32) -> BriefFound
+    ensures { λ r. ⌜ brief-outcome r ≡ keptHandler (now (s .entry)) j k at ⌝ }
+{
+    let offset = offset_of(at, j.base);
+    match leb128::sleb(s, at, j.item) {
+        SignedLeb::Refused(r) => BriefFound::Refused(r),
+        SignedLeb::Got { value: size, next } => {
+            let pairs = sign::magnitude_of(size);
+            rest_at(s, j, offset, pairs, size, next, k)
+        }
+    }
+}
+
+// The new handler where it is the one asked for, or else the one that was kept.
+fn newer(asked: bool, new: Brief, old: Brief) -> Brief
+    ensures { λ r. ⌜ r ≡ cond asked new old ⌝ }
+{
+    if asked {
+        return new;
+    }
+    old
+}
+
+// All handlers from a place on, of which pair k of handler h is kept.
+fn list_found(s: &[u8], j: Judge, from: usize, count: u32, h: u32, k: u32) -> BriefFound
+    ensures { λ r. ⌜ brief-outcome r ≡ keptList (now (s .entry)) j from count h k ⌝ }
+{
+    let mut p = from;
+    let mut kept = Brief {
+        offset: 0,
+        pairs: 0,
+        pair: Pair {
+            kind: 0,
+            address: 0,
+        },
+        caught: false,
+        all: 0,
+    };
+    let mut i: u32 = 0;
+    let mut left = count;
+    while 0 < left {
+        match handler_found(s, j, p, k) {
+            BriefFound::Refused(r) => {
+                return BriefFound::Refused(r);
+            }
+            BriefFound::Got { brief, next } => {
+                kept = newer(i == h, brief, kept);
+                p = next;
+            }
+        }
+        i += 1;
+        left -= 1;
+    }
+    BriefFound::Got {
+        brief: kept,
+        next: p,
+    }
+}
+
+// The handler list, of which pair k of handler h is kept.
+pub fn handlers_at(s: &[u8], j: Judge, h: u32, k: u32) -> ListAnswer
+    ensures { λ r. ⌜ list-outcome r ≡ keptAt (now (s .entry)) j h k ⌝ }
+{
+    let item = j.item;
+    match leb128::uleb(s, j.base, item) {
+        Leb::Refused(r) => ListAnswer::Refused(r),
+        Leb::Got {
+            value: count,
+            next: first,
+        } => {
+            if 0 < count {
+                return match list_found(s, j, first, count, h, k) {
+                    BriefFound::Refused(r) => ListAnswer::Refused(r),
+                    BriefFound::Got { brief, next: end } => ListAnswer::Got {
+                        count,
+                        brief,
+                        first,
+                        end,
+                    },
+                };
+            }
+            ListAnswer::Refused(Refusal {
+                number: 17,
+                place: item,
+            })
+        }
+    }
+}

@@ -1,0 +1,247 @@
+#!/usr/bin/env python3
+"""Writes what crates/class_run reads (stdin) and must write (stdout): document 01's rules on debug information, class data and code
+items, told once more in Python.
+
+    vectors/class.py             (from the repository's root)"""
+from records import write
+
+ITEM, START, STRINGS, TYPES, FIELDS, METHODS = 4, 4, 3, 3, 8, 8
+
+
+class Refused(Exception):
+    pass
+
+
+def refuse(number, place=ITEM):
+    raise Refused(f' refused {number} at {place}')
+
+
+def leb(s, p, last=lambda b: b <= 0x0f):
+    got = []
+    while True:
+        if len(s) <= p + len(got):
+            refuse(9)
+        got.append(s[p + len(got)])
+        if len(got) == 5 and not last(got[4]):
+            refuse(10)
+        if got[-1] < 0x80:
+            return sum((b & 0x7f) << 7 * i for i, b in enumerate(got)), p + len(got), got
+
+
+def uleb(s, p):
+    return leb(s, p)[:2]
+
+
+def sleb(s, p):
+    v, q, got = leb(s, p, lambda b: b <= 0x07 or 0x78 <= b <= 0x7f)
+    return (v - (1 << 7 * len(got)) if got[-1] & 0x40 else v), q
+
+
+def debug(s):
+    line, p = uleb(s, ITEM)
+    count, p = uleb(s, p)
+    names = []
+    for _ in range(count):
+        v, p = uleb(s, p)
+        if v > STRINGS:
+            refuse(11)
+        names.append('none' if v == 0 else v - 1)
+    zero = p
+    while True:
+        if len(s) <= zero:
+            refuse(9)
+        if s[zero] == 0:
+            return line, names, p, zero - p
+        zero += 1
+
+
+def members(s, p, count, limit, code):
+    got = []
+    for i in range(count):
+        d, p = uleb(s, p)
+        if i and d == 0:
+            refuse(15)
+        index = (got[-1][0] if got else 0) + d
+        if index >= limit:
+            refuse(11)
+        flags, p = uleb(s, p)
+        offset = 0
+        if code:
+            offset, p = uleb(s, p)
+            if offset and (offset < START or offset >= len(s) or offset % 4):
+                refuse(8)
+        got.append((index, flags, offset))
+    return got, p
+
+
+def data(s):
+    p, counts, lists = ITEM, [], []
+    for _ in range(4):
+        n, p = uleb(s, p)
+        counts.append(n)
+    for n, limit, code in zip(counts, (FIELDS, FIELDS, METHODS, METHODS), (False, False, True, True)):
+        got, p = members(s, p, n, limit, code)
+        lists.append(got)
+    return lists, p
+
+
+def code(s, order):
+    def word(p, n):
+        if len(s) < p + n:
+            refuse(9)
+        return int.from_bytes(s[p:p + n], order)
+    registers, ins, outs, tries = (word(ITEM + 2 * i, 2) for i in range(4))
+    offset = word(ITEM + 8, 4)
+    if offset and (offset < START or offset >= len(s)):
+        refuse(8)
+    units = word(ITEM + 12, 4)
+    start = ITEM + 16 + 2 * units + (2 if tries and units % 2 else 0)
+    base = start + 8 * tries
+    if len(s) < base:
+        refuse(9)
+    attempts, floor = [], 0
+    for i in range(tries):
+        p = start + 8 * i
+        a = word(p, 4), word(p + 4, 2), word(p + 6, 2)
+        if a[0] < floor or a[0] + a[1] > units:
+            refuse(17)
+        floor = a[0] + a[1]
+        attempts.append(a)
+    handlers, end = [], base
+
+    def address(p):
+        a, p = uleb(s, p)
+        if a >= units:
+            refuse(17)
+        return a, p
+    if tries:
+        count, p = uleb(s, base)
+        if count == 0:
+            refuse(17)
+        for _ in range(count):
+            place = p - base
+            size, p = sleb(s, p)
+            pairs = []
+            for _ in range(abs(size)):
+                kind, p = uleb(s, p)
+                if kind >= TYPES:
+                    refuse(11)
+                a, p = address(p)
+                pairs.append((kind, a))
+            caught = 'none'
+            if size <= 0:
+                caught, p = address(p)
+            handlers.append((place, pairs, caught))
+        end = p
+    places = [h[0] for h in handlers]
+    links = []
+    for a in attempts:
+        if a[2] not in places:
+            refuse(17)
+        links.append(places.index(a[2]))
+    return (registers, tries, offset, units, len(handlers), start, base, end), attempts, links, handlers
+
+
+def told(read, show):
+    try:
+        return show(read())
+    except Refused as r:
+        return r.args[0]
+
+
+def numbers(*values):
+    return ''.join(f' {v}' for v in values)
+
+
+def pick(read, choose):
+    """One part of an item that obeys its rules, or 7 at place 0."""
+    def show(whole):
+        part = choose(whole)
+        return ' refused 7 at 0' if part is None else numbers(*part)
+    return ',' + told(read, show)
+
+
+def at(values, k):
+    return values[k] if k < len(values) else None
+
+
+def line(name, s):
+    if name[0] == 'd':
+        read = lambda: debug(s)
+        said = told(read, lambda d: numbers(d[0], len(d[1]), d[2], d[3]))
+        said += ''.join(pick(read, lambda d: (d[1][k],) if k < len(d[1]) else None) for k in range(3))
+    elif name[0] == 'c':
+        read = lambda: data(s)
+        said = told(read, lambda d: numbers(*map(len, d[0]), d[1]))
+        for n, k in ((0, 0), (0, 1), (0, 2), (1, 0), (2, 0), (2, 1), (3, 0), (4, 0)):
+            said += pick(read, lambda d: at(d[0][n], k) if n < 4 else None)
+    else:
+        read = lambda: code(s, 'little' if name[0] == 'x' else 'big')
+        said = told(read, lambda c: numbers(*c[0]))
+        for t in (0, 1):
+            said += pick(read, lambda c: (*c[1][t], c[2][t]) if t < len(c[1]) else None)
+        for h in (0, 1):
+            said += pick(read, lambda c: (c[3][h][0], len(c[3][h][1]), c[3][h][2]) if h < len(c[3]) else None)
+        for h, k in ((0, 0), (1, 1)):
+            said += pick(read, lambda c: at(c[3][h][1], k) if h < len(c[3]) else None)
+    return f'{name}:{said}'
+
+
+def item(text):
+    return b'zzzz' + bytes.fromhex(text)
+
+
+BIG = 'ffffffff0f'
+CASES = [(n, item(t)) for n, t in (
+    # debug information: names none and given, 11 at the count, each part cut off, the first zero byte, malformed numbers
+    ('d whole', '0a 03 00 01 03 07 08 00'), ('d none', '00 00 00'), ('d empty program', '05 01 02 00 01'), ('d name past', '01 02 03 04 00'),
+    ('d name past and cut', '01 02 04'), ('d cut names', '01 02 03'), ('d no zero', '01 00 05 06'), ('d no program', '01 00'), ('d no count', '01'),
+    ('d nothing', ''), ('d line malformed', '8080808010 00 00'), ('d count malformed', '01 8080808080 00'), ('d name malformed', '01 01 8080808010'),
+    ('d long line', BIG + ' 00 00'), ('d name long', '01 01 8100 00'), ('d many names', '01 ' + BIG + ' 00 00'), ('d second zero', '01 00 09 00 09 00'),
+    # class data: differences 5, 1, 1; 0 first and later; sums past the counts and past 2^32; code offsets; each list anew; each part cut off
+    ('c empty', '00 00 00 00'), ('c 5 1 1', '03 00 00 00 05 01 01 02 01 03'), ('c first 0', '02 00 00 00 00 09 01 09'), ('c later 0', '02 00 00 00 05 01 00 01'),
+    ('c at count', '01 00 00 00 08 00'), ('c below count', '01 00 00 00 07 00'), ('c sum at count', '02 00 00 00 05 00 03 00'), ('c past 2^32', '02 00 00 00 07 00 ' + BIG + ' 00'),
+    ('c first 2^32', '01 00 00 00 ' + BIG + ' 00'), ('c anew', '01 01 01 01 07 00 07 00 07 00 00 07 00 00'), ('c instance 0', '01 01 00 00 03 00 00 01'),
+    ('c code', '00 00 02 01 00 01 08 01 01 00 02 05 04'), ('c code uneven', '00 00 01 00 00 00 06'), ('c code low', '00 00 01 00 00 00 03'), ('c code before', '00 00 01 00 00 00 02'),
+    ('c code end', '00 00 01 00 00 00 0c 00'), ('c code last', '00 00 01 00 00 00 08 00 00'), ('c code 9', '00 00 01 00 00 00'), ('c no flags', '01 00 00 00 01'), ('c no member', '01 00 00 00'),
+    ('c 11 before flags', '01 00 00 00 08'), ('c 15 before flags', '02 00 00 00 05 01 00'), ('c 15 not 11', '00 00 02 00 07 00 00 00 00 00'), ('c method at count', '00 00 01 00 08 00 00'),
+    ('c three counts', '00 00 00'), ('c nothing', ''), ('c count malformed', '8080808010 00 00 00'), ('c flags malformed', '01 00 00 00 01 8080808010'), ('c flags long', '01 00 00 00 01 8180808000'),
+    ('c many', BIG + ' 00 00 00 00 00'), ('c virtual repeats', '00 00 00 02 03 00 00 00 00 00'), ('c code malformed', '00 00 01 00 00 00 8080808010'),
+)]
+
+
+def code_bytes(order, units, tries, handlers='', registers=5, debug=0, count=None, pad=None, tries_count=None):
+    n = len(tries) if tries_count is None else tries_count
+    size = len(units) if count is None else count
+    w = lambda v, k: v.to_bytes(k, order)
+    s = w(registers, 2) + w(1, 2) + w(2, 2) + w(n, 2) + w(debug, 4) + w(size, 4) + b''.join(w(u, 2) for u in units)
+    if (n and size % 2) if pad is None else pad:
+        s += b'\xee\xee'
+    return b'zzzz' + s + b''.join(w(a, 4) + w(b, 2) + w(c, 2) for a, b, c in tries) + bytes.fromhex(handlers)
+
+
+def both(name, *args, **kw):
+    return [('x ' + name, code_bytes('little', *args, **kw)), ('X ' + name, code_bytes('big', *args, **kw))]
+
+
+ONE = '01 00 02'
+for c in (
+    both('no tries', [1, 2, 3], []), both('no units', [], []), both('even', [1, 2, 3, 4], [(0, 2, 1)], ONE), both('odd', [1, 2, 3], [(0, 2, 1)], ONE),
+    both('odd unpadded', [1, 2, 3], [(0, 2, 1)], ONE, pad=False), both('odd no tries then bytes', [1, 2, 3], [], '00 00'), both('debug', [1], [], debug=4), both('debug low', [1], [], debug=3),
+    both('debug end', [1], [], debug=22), both('debug last', [1], [], debug=21), both('units cut', [1, 2], [], count=3), both('many units', [1], [], count=0xffffffff), both('tries cut', [1, 2], [(0, 1, 1)], tries_count=2),
+    both('most tries', [1, 2], [(0, 1, 1)], tries_count=0xffff), both('touch', [1, 2, 3, 4], [(0, 2, 1), (2, 2, 1)], ONE), both('overlap', [1, 2, 3, 4], [(0, 2, 1), (1, 2, 1)], ONE),
+    both('overlap and past', [1, 2, 3, 4], [(0, 2, 1), (1, 5, 1)], ONE), both('falling', [1, 2, 3, 4], [(2, 1, 1), (0, 1, 1)], ONE), both('empty at end', [1, 2, 3, 4], [(0, 2, 1), (4, 0, 1)], ONE),
+    both('empty past end', [1, 2, 3, 4], [(5, 0, 1)], ONE), both('past end', [1, 2, 3, 4], [(3, 2, 1)], ONE), both('start large', [1, 2], [(0xffffffff, 0xffff, 1)], ONE),
+    both('size 0 list', [1, 2], [(0, 1, 1)], '00'), both('no list', [1, 2], [(0, 1, 1)]), both('positive', [1, 2], [(0, 1, 1)], '01 02 00 01 02 00'), both('negative', [1, 2], [(0, 1, 1)], '01 7e 00 01 02 00 01'),
+    both('negative uncaught', [1, 2], [(0, 1, 1)], '01 7e 00 01 02 00'), both('least size', [1, 2], [(0, 1, 1)], '01 8080808078 00 01'), both('least size 11', [1, 2], [(0, 1, 1)], '01 8080808078 03 01'),
+    both('size malformed', [1, 2], [(0, 1, 1)], '01 8080808008'), both('type past', [1, 2], [(0, 1, 1)], '01 01 03 00'), both('type past cut', [1, 2], [(0, 1, 1)], '01 01 03'),
+    both('address at count', [1, 2], [(0, 1, 1)], '01 01 00 02'), both('address below', [1, 2], [(0, 1, 1)], '01 01 00 01'), both('catch at count', [1, 2], [(0, 1, 1)], '01 00 02'),
+    both('two handlers', [1, 2, 3, 4], [(0, 1, 4), (1, 1, 1)], '02 01 00 01 7e 01 02 02 03 00'), both('shared', [1, 2, 3, 4], [(0, 1, 3), (1, 1, 3)], '02 00 01 00 02'),
+    both('middle', [1, 2, 3, 4], [(0, 1, 2)], ONE), both('offset 0', [1, 2, 3, 4], [(0, 1, 0)], ONE), both('offset end', [1, 2, 3, 4], [(0, 1, 3)], ONE), both('second bad', [1, 2, 3, 4], [(0, 1, 1), (1, 1, 2)], ONE),
+    both('offset and address', [1, 2], [(0, 1, 7)], '01 00 05'), both('long size', [1, 2, 3, 4], [(0, 1, 2)], '8100 00 02'), both('list malformed', [1, 2], [(0, 1, 1)], '8080808010'), both('many handlers', [1, 2], [(0, 1, 1)], BIG + ' 00 01'),
+):
+    CASES += c
+HEAD = code_bytes('little', [1], [], debug=3)
+CASES += [(f'x head {n}', HEAD[:4 + n]) for n in (0, 1, 7, 8, 11, 12, 15, 16)] + [(f'x good head {n}', code_bytes('little', [1], [])[:4 + n]) for n in (12, 15, 16, 17, 18)]
+
+write('class_run', CASES, line)
