@@ -14,7 +14,6 @@ use Rattle.refusal.specs.declared.Refusal.{Refusal}
 use Rattle.refusal.specs.Outcome.{Outcome, answer, refused, _>>=_, accepted}
 use Rattle.refusal.specs.Rows.{Found, past}
 use Rattle.refusal.proofs.Laws.{said, calls, tests, bind-answer, bind-refused, passes, fails}
-use Rattle.refusal.proofs.Exact.{answers-equal, never}
 use Rattle.refusal.proofs.Each.{at-below}
 use Rattle.word.specs.Words.{u32At}
 use Rattle.frame.specs.declared.Frame.{Frame}
@@ -23,8 +22,8 @@ use Rattle.encoded_value.proofs.Leaves.{on-step}
 use Rattle.value_bodies.proofs.Picks.{pick-none}
 use Rattle.annotations.specs.Fixed.{entriesFrom, fixedAt, Fixed}
 use Rattle.annotations.specs.Offsets.{wordAt}
-use Rattle.annotations.specs.Directories.{Entry, Directory, countsAt, headAt, entryOf, entryAt, listAt, entriesPass, listPast, listsAt, listsPass, directoryAt, directoryHead, listOf, directoryEntry, countOf, beforeOf, limitOf}
-use Rattle.annotations.specs.Rules.{HeadRule, EntryRule, DirectoryRule}
+use Rattle.annotations.specs.Directories.{Entry, Directory, headAt, entryOf, entryAt, listAt, entriesPass, listPast, listsAt, listsPass, directoryAt, directoryHead, listOf, directoryEntry, countOf, beforeOf, limitOf}
+use Rattle.annotations.specs.Rules.{EntryRule, DirectoryRule}
 use Rattle.annotations.specs.declared.Head.{Head}
 use Rattle.annotations.specs.declared.Checked.{Checked}
 use Rattle.annotations.specs.declared.Checked.the-variants as C

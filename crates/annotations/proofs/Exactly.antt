@@ -6,7 +6,6 @@ use mathlib.Core.Bool.{Bool, true, false}
 use mathlib.Core.List.{List}
 use lib.ListN.{length, getD}
 use native.Mathlib.Omega.{arith}
-use Rattle.refusal.specs.Outcome.{Outcome, answer}
 use Rattle.refusal.specs.Rows.{Found}
 use Rattle.refusal.specs.Exact.{Exact, Decides}
 use Rattle.refusal.proofs.Exact.{same, answer-exact, given-exact, bind-exact, exact-iff, below, at-most}
@@ -15,7 +14,6 @@ use Rattle.frame.specs.declared.Frame.{Frame}
 use Rattle.frame.specs.Offsets.{Allowed, AllowedOrAbsent}
 use Rattle.frame.proofs.Laws.{allowed-decides, or-absent-decides}
 use Rattle.encoded_value.specs.Kinds.{walkOf}
-use Rattle.encoded_value.specs.Tree.{Annotation}
 use Rattle.encoded_value.proofs.Exactly.{annotation-exact}
 use Rattle.annotations.specs.declared.Head.{Head}
 use Rattle.annotations.specs.Fixed.{Fixed}

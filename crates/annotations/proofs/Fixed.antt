@@ -1,13 +1,12 @@
 -- Lists of fixed-width entries: exact where their entries are, the k-th is there, and the loop that goes over them.
 -- Assumes nothing.
 use Prim.Native.Nat.{ℕ, zero, suc, _+_, _-_, _*_, _<_, _≤_}
-use mathlib.Core.Path.{_≡_, refl, ap, sym, subst, _∙_}
+use mathlib.Core.Path.{_≡_, ap, sym, _∙_}
 use mathlib.Core.List.{List}
 use lib.ListN.{length}
 use native.Mathlib.Omega.{arith}
 use Rattle.refusal.specs.declared.Refusal.{Refusal}
 use Rattle.refusal.specs.Outcome.{Outcome, answer, refused, _>>=_, accepted}
-use Rattle.refusal.specs.Rows.{every}
 use Rattle.refusal.specs.Exact.{Exact, Each}
 use Rattle.refusal.proofs.Exact.{given-exact, exact-iff, at-most}
 use Rattle.refusal.proofs.Each.{at-some, every-exact}
