@@ -140,7 +140,7 @@ pub fn limit_of(w: Walk, code: u8) -> u32
 }
 
 // Do n bytes fit from a place on.
-fn has_room(len: usize, at: usize, n: usize) -> bool
+pub fn has_room(len: usize, at: usize, n: usize) -> bool
     ensures { λ r. ⌜ r ≡ leb (at + n) len ⌝ }
 {
     if len < at {

@@ -1,0 +1,77 @@
+use Rattle.annotation_walk.proofs.Laws.{set-laws as laws}
+use Rattle.annotation_walk.specs.Below.{setFrom}
+use Rattle.annotations.proofs.Fixed.{Along}
+use Rattle.annotation_walk.proofs.sets_pass.Statement.{statement}
+use Rattle.annotation_walk.proofs.sets_pass.Tie as tie
+use Rattle.annotation_walk.proofs.sets_pass.Reads as reads
+use Rattle.annotation_walk.proofs.sets_pass.Lts as lts
+use Rattle.annotation_walk.proofs.own_set.Reads as own-set-reads
+use Rattle.word.proofs.u32_at.Reads as u32-at-reads
+
+abbrev Inv-loop : tie.InvT-loop
+Inv-loop s f from count order at₀ left₀ at left = Along (setFrom s f) s 4 from count left at
+
+abbrev μ-loop : tie.MeasureT-loop
+μ-loop s f from count order at₀ left₀ at left = left
+
+-- src/lib.rt:67:5
+loop-holds : tie.Need-loop-holds Inv-loop μ-loop
+loop-holds c = search laws
+
+-- src/lib.rt:68:29
+u32-at-requires : tie.Need-u32-at-requires Inv-loop μ-loop
+u32-at-requires c κs = search laws
+
+-- src/lib.rt:68:15
+own-set-requires : tie.Need-own-set-requires Inv-loop μ-loop
+own-set-requires c κs = search laws
+
+-- src/lib.rt:69:30
+enum-known-r : tie.Need-enum-known-r Inv-loop μ-loop
+enum-known-r c = search laws
+
+-- src/lib.rt:70:17
+returns : tie.Need-returns Inv-loop μ-loop
+returns c = search laws
+
+-- src/lib.rt:73:17
+enum-told : tie.Need-enum-told Inv-loop μ-loop
+enum-told c = search laws
+
+-- src/lib.rt:73:17
+add-at : tie.Need-add-at Inv-loop μ-loop
+add-at c = search laws
+
+-- src/lib.rt:76:9
+sub-left : tie.Need-sub-left Inv-loop μ-loop
+sub-left c = search laws
+
+-- src/lib.rt:67:5
+loop-less : tie.Need-loop-less Inv-loop μ-loop
+loop-less c = search laws
+
+-- src/lib.rt:67:5
+loop-again : tie.Need-loop-again Inv-loop μ-loop
+loop-again c = search laws
+
+-- src/lib.rt:60:1
+returns-2 : tie.Need-returns-2 Inv-loop μ-loop
+returns-2 c = search laws
+
+pub sets-pass-spec : {M : Type 1} → statement M
+sets-pass-spec =
+    tie.close
+    (tie.spec
+    Inv-loop
+    μ-loop
+    loop-holds
+    u32-at-requires
+    own-set-requires
+    enum-known-r
+    returns
+    enum-told
+    add-at
+    sub-left
+    loop-less
+    loop-again
+    returns-2)

@@ -1,0 +1,39 @@
+-- What lies below sets, reference lists and directories as rules: each item obeys its own rules and those of all that it leads to.
+use Prim.Native.Nat.{ℕ, _+_, _*_}
+use mathlib.Core.Path.{_≡_}
+use mathlib.Core.Option.{Option}
+use mathlib.Core.List.{List}
+use lib.ListN.{length}
+use Rattle.refusal.specs.Exact.{Present, Each}
+use Rattle.word.specs.Words.{u32At}
+use Rattle.frame.specs.declared.Frame.{Frame}
+use Rattle.annotations.specs.Directories.{Directory}
+use Rattle.annotations.specs.Items.{Item}
+use Rattle.annotations.specs.Rules.{SetRule, ReferencesRule, DirectoryRule, ItemRule}
+use Rattle.annotation_walk.specs.Below.{Under, Annotated}
+
+module _ (s : List ℕ) (f : Frame) where
+  -- item k of a set is the one that offset k leads to
+  pub record SetBelow (item : ℕ) (l : List Item) : Type 0 where
+    pub offsets : List ℕ
+    pub rule : SetRule s f item offsets
+    pub items : Each (λ (k : ℕ) (a : Item). ItemRule s f (u32At (f .order) s (item + 4 + 4 * k)) a) (length offsets) l
+
+  -- set k of a reference list, none exactly where offset k is 0
+  pub record ReferencesBelow (item : ℕ) (l : List (Option (List Item))) : Type 0 where
+    pub offsets : List ℕ
+    pub rule : ReferencesRule s f item offsets
+    pub sets : Each (λ (k : ℕ) (a : Option (List Item)). Present (SetBelow (u32At (f .order) s (item + 4 + 4 * k))) (u32At (f .order) s (item + 4 + 4 * k)) a) (length offsets) l
+
+  -- the entry at a place: its index, and what its offset leads to
+  pub record EntryBelow {B : Type 0} (Below : ℕ → B → Type 0) (p : ℕ) (u : Under B) : Type 0 where
+    pub index : u32At (f .order) s p ≡ u .index
+    pub below : Below (u32At (f .order) s (p + 4)) (u .below)
+
+  pub record DirectoryBelow (item : ℕ) (a : Annotated) : Type 0 where
+    pub directory : Directory
+    pub rule : DirectoryRule s f item directory
+    pub own : Present (SetBelow (directory .head .set)) (directory .head .set) (a .own)
+    pub fields : Each (λ (k : ℕ) (u : Under (List Item)). EntryBelow SetBelow (item + 16 + 8 * k) u) (directory .head .fields) (a .fields)
+    pub methods : Each (λ (k : ℕ) (u : Under (List Item)). EntryBelow SetBelow (item + 16 + 8 * directory .head .fields + 8 * k) u) (directory .head .methods) (a .methods)
+    pub parameters : Each (λ (k : ℕ) (u : Under (List (Option (List Item)))). EntryBelow ReferencesBelow (item + 16 + 8 * directory .head .fields + 8 * directory .head .methods + 8 * k) u) (directory .head .parameters) (a .parameters)

@@ -1,0 +1,6 @@
+pub mod Fixed
+pub mod Exactly
+pub mod ListLaws
+pub mod DirectoryLaws
+pub mod ItemLaws
+pub mod Once

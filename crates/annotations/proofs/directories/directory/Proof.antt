@@ -1,0 +1,61 @@
+use Rattle.annotations.proofs.DirectoryLaws.{directory-laws as laws}
+use Rattle.annotations.proofs.DirectoryLaws.{head-kept}
+use Rattle.annotations.proofs.directories.directory.Statement.{statement}
+use Rattle.annotations.proofs.directories.directory.Tie as tie
+use Rattle.annotations.proofs.directories.directory.Reads as reads
+use Rattle.annotations.proofs.directories.directory.Lts as lts
+use Rattle.annotations.proofs.directories.head_at.Reads as head-at-reads
+use Rattle.annotations.proofs.directories.lists_pass.Reads as lists-pass-reads
+
+-- src/directories.rt:150:11
+head-at-requires : tie.Need-head-at-requires
+head-at-requires c κs = search laws depth 7
+
+-- src/directories.rt:151:29
+enum-known-r : tie.Need-enum-known-r
+enum-known-r c = search laws depth 7
+
+-- src/directories.rt:152:25
+enum-known-h : tie.Need-enum-known-h
+enum-known-h c = search laws depth 7
+
+-- src/directories.rt:152:37
+lists-pass-requires : tie.Need-lists-pass-requires
+lists-pass-requires c κs = search laws depth 7
+
+-- src/directories.rt:153:30
+enum-known-r-2 : tie.Need-enum-known-r-2
+enum-known-r-2 c = search laws depth 7
+
+-- src/directories.rt:154:34
+enum-told : tie.Need-enum-told
+enum-told c = search laws depth 7
+
+-- src/directories.rt:147:1
+returns : tie.Need-returns
+unfolding head-kept
+returns c = search laws depth 7
+
+-- src/directories.rt:147:1
+returns-2 : tie.Need-returns-2
+unfolding head-kept
+returns-2 c = search laws depth 7
+
+-- src/directories.rt:147:1
+returns-3 : tie.Need-returns-3
+unfolding head-kept
+returns-3 c = search laws depth 7
+
+pub directory-spec : {M : Type 1} → statement M
+directory-spec =
+    tie.close
+    (tie.spec
+    head-at-requires
+    enum-known-r
+    enum-known-h
+    lists-pass-requires
+    enum-known-r-2
+    enum-told
+    returns
+    returns-2
+    returns-3)

@@ -1,0 +1,56 @@
+use Rattle.annotations.proofs.DirectoryLaws.{entry-laws as laws}
+use Rattle.annotations.specs.Directories.{entryOf}
+use Rattle.annotations.proofs.directories.entry_at.Statement.{statement}
+use Rattle.annotations.proofs.directories.entry_at.Tie as tie
+use Rattle.annotations.proofs.directories.entry_at.Reads as reads
+use Rattle.annotations.proofs.directories.entry_at.Lts as lts
+use Rattle.frame.proofs.is_allowed.Reads as is-allowed-reads
+use Rattle.word.proofs.u32_at.Reads as u32-at-reads
+
+-- src/directories.rt:65:9
+u32-at-requires : tie.Need-u32-at-requires
+u32-at-requires c κs = search laws
+
+-- src/directories.rt:66:34
+add-u32-at : tie.Need-add-u32-at
+add-u32-at c = search laws
+
+-- src/directories.rt:66:9
+u32-at-requires-2 : tie.Need-u32-at-requires-2
+u32-at-requires-2 c κs = search laws
+
+-- src/directories.rt:68:54
+cast-is-allowed : tie.Need-cast-is-allowed
+cast-is-allowed c = search laws
+
+-- src/directories.rt:68:12
+is-allowed-requires : tie.Need-is-allowed-requires
+is-allowed-requires c κs = search laws
+
+-- src/directories.rt:69:13
+returns : tie.Need-returns
+unfolding entryOf
+returns c = search laws
+
+-- src/directories.rt:71:9
+returns-2 : tie.Need-returns-2
+unfolding entryOf
+returns-2 c = search laws
+
+-- src/directories.rt:60:1
+returns-3 : tie.Need-returns-3
+unfolding entryOf
+returns-3 c = search laws
+
+pub entry-at-spec : {M : Type 1} → statement M
+entry-at-spec =
+    tie.close
+    (tie.spec
+    u32-at-requires
+    add-u32-at
+    u32-at-requires-2
+    cast-is-allowed
+    is-allowed-requires
+    returns
+    returns-2
+    returns-3)

@@ -1,0 +1,62 @@
+use Rattle.annotations.proofs.ListLaws.{number-laws as laws}
+use Rattle.annotations.proofs.lists.offset_number.Statement.{statement}
+use Rattle.annotations.proofs.lists.offset_number.Tie as tie
+use Rattle.annotations.proofs.lists.offset_number.Reads as reads
+use Rattle.annotations.proofs.lists.offset_number.Lts as lts
+use Rattle.annotations.proofs.lists.offset_at.Reads as offset-at-reads
+use Rattle.annotations.proofs.lists.offset_count.Reads as offset-count-reads
+
+-- src/lists.rt:110:11
+offset-count-requires : tie.Need-offset-count-requires
+offset-count-requires c κs = search laws
+
+-- src/lists.rt:111:23
+enum-known-r : tie.Need-enum-known-r
+enum-known-r c = search laws
+
+-- src/lists.rt:112:19
+enum-known-count : tie.Need-enum-known-count
+enum-known-count c = search laws
+
+-- src/lists.rt:114:60
+add-offset-at : tie.Need-add-offset-at
+add-offset-at c = search laws
+
+-- src/lists.rt:114:71
+mul-offset-at : tie.Need-mul-offset-at
+mul-offset-at c = search laws
+
+-- src/lists.rt:114:60
+add-offset-at-2 : tie.Need-add-offset-at-2
+add-offset-at-2 c = search laws
+
+-- src/lists.rt:114:17
+offset-at-requires : tie.Need-offset-at-requires
+offset-at-requires c κs = search laws
+
+-- src/lists.rt:114:17
+returns : tie.Need-returns
+returns c = search laws
+
+-- src/lists.rt:107:1
+returns-2 : tie.Need-returns-2
+returns-2 c = search laws
+
+-- src/lists.rt:107:1
+returns-3 : tie.Need-returns-3
+returns-3 c = search laws
+
+pub offset-number-spec : {M : Type 1} → statement M
+offset-number-spec =
+    tie.close
+    (tie.spec
+    offset-count-requires
+    enum-known-r
+    enum-known-count
+    add-offset-at
+    mul-offset-at
+    add-offset-at-2
+    offset-at-requires
+    returns
+    returns-2
+    returns-3)
