@@ -4,4 +4,5 @@ pub mod StringLaws
 pub mod TableLaws
 pub mod ListLaws
 pub mod FlagLaws
+pub mod ValueLaws
 pub mod Once

@@ -2,6 +2,8 @@
 use Prim.Native.Nat.{ℕ}
 use Rattle.refusal.specs.Outcome.{Outcome, answer, refused}
 use Rattle.map_list.specs.declared.Entry.{Entry}
+use Rattle.dex.specs.declared.Opened.{Opened}
+use Rattle.dex.specs.declared.OpenedAnswer as O
 use Rattle.dex.specs.declared.CountAnswer as C
 use Rattle.dex.specs.declared.EntryAnswer as E
 
@@ -12,3 +14,7 @@ count-outcome (C.the-variants.Refused r) = refused r
 abbrev pub entry-outcome : E.EntryAnswer → Outcome Entry
 entry-outcome (E.the-variants.Got e) = answer e
 entry-outcome (E.the-variants.Refused r) = refused r
+
+abbrev pub opened-outcome : O.OpenedAnswer → Outcome Opened
+opened-outcome (O.the-variants.Got o) = answer o
+opened-outcome (O.the-variants.Refused r) = refused r

@@ -1,5 +1,6 @@
 // The public readers of a DEX file, each over a lent file: header (1 to 6), the map where it is read (8, 9, 16), 7 for a number that is not
 // there, the record, then each item on the way.
+use header::Header;
 use map_list::Entry;
 use refusal::Refusal;
 
@@ -8,6 +9,7 @@ mod head;
 mod lists;
 mod strings;
 mod tables;
+mod values;
 
 pub use flags::class_flags;
 pub use head::handle_count;
@@ -28,6 +30,12 @@ pub use tables::handle;
 pub use tables::method;
 pub use tables::proto;
 pub use tables::type_name;
+pub use values::annotation_body;
+pub use values::annotation_body_element;
+pub use values::array;
+pub use values::array_value;
+pub use values::static_value;
+pub use values::static_value_count;
 
 pub enum CountAnswer {
     Got(u32),
@@ -36,5 +44,16 @@ pub enum CountAnswer {
 
 pub enum EntryAnswer {
     Got(Entry),
+    Refused(Refusal),
+}
+
+// A file's header, and how many method handles its map gives.
+pub struct Opened {
+    pub header: Header,
+    pub handles: u32,
+}
+
+pub enum OpenedAnswer {
+    Got(Opened),
     Refused(Refusal),
 }

@@ -1,0 +1,36 @@
+use Rattle.dex.proofs.ValueLaws.{walked as laws}
+use Rattle.dex.specs.Values.{valueIn}
+use Rattle.dex.proofs.values.value_in.Statement.{statement}
+use Rattle.dex.proofs.values.value_in.Tie as tie
+use Rattle.dex.proofs.values.value_in.Reads as reads
+use Rattle.dex.proofs.values.value_in.Lts as lts
+use Rattle.dex.proofs.values.walk_in.Reads as walk-in-reads
+use Rattle.header.proofs.section_of.Reads as section-of-reads
+use Rattle.value_bodies.proofs.array_value.Reads as array-value-reads
+
+-- src/values.rt:214:13
+section-of-requires : tie.Need-section-of-requires
+section-of-requires c κs = search laws
+
+-- src/values.rt:215:13
+walk-in-requires : tie.Need-walk-in-requires
+walk-in-requires c κs = search laws
+
+-- src/values.rt:213:9
+array-value-requires : tie.Need-array-value-requires
+array-value-requires c κs = search laws
+
+-- src/values.rt:213:9
+returns : tie.Need-returns
+unfolding valueIn
+returns c = search laws
+
+-- src/values.rt:208:1
+returns-2 : tie.Need-returns-2
+unfolding valueIn
+returns-2 c = search laws
+
+pub value-in-spec : {M : Type 1} → statement M
+value-in-spec =
+    tie.close
+    (tie.spec section-of-requires walk-in-requires array-value-requires returns returns-2)

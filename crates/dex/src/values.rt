@@ -1,0 +1,246 @@
+// Values by place and by class: header, map, 7 for a place outside the data section or a number, the item whole, 7 for the inner number.
+use super::Opened;
+use super::OpenedAnswer;
+use class_ids::ClassAnswer;
+use encoded_value::Walk;
+use header::Header;
+use header::HeaderAnswer;
+use map_list::MapAnswer;
+use refusal::Refusal;
+use value_bodies::Count;
+use value_bodies::Element;
+use value_bodies::Head;
+use value_bodies::Picked;
+ghost use mathlib.Core.Path.{_≡_};
+ghost use Rattle.value_bodies.specs.Answers.{count-outcome, picked-outcome, head-outcome, element-outcome};
+ghost use Rattle.dex.specs.Values.{openedAt, mappedAt, walk-in, arrayUnder, arrayOf, arrayValueUnder, arrayValueOf, bodyUnder, bodyOf, elementUnder, elementOf};
+ghost use Rattle.dex.specs.Values.{valuesIn, valuesUnder, staticCount, valueIn, valueUnder, staticValue};
+ghost use Rattle.dex.specs.Answers.{opened-outcome};
+
+fn mapped(f: &[u8], h: Header) -> OpenedAnswer
+    ensures { λ r. ⌜ opened-outcome r ≡ mappedAt (now (f .entry)) h ⌝ }
+{
+    match map_list::map_of(f, h) {
+        MapAnswer::Refused(r) => OpenedAnswer::Refused(r),
+        MapAnswer::Got(m) => {
+            let t = m.handles;
+            OpenedAnswer::Got(Opened {
+                header: h,
+                handles: t.count,
+            })
+        }
+    }
+}
+
+// The header, and how many method handles the map gives.
+fn opened(f: &[u8]) -> OpenedAnswer
+    ensures { λ r. ⌜ opened-outcome r ≡ openedAt (now (f .entry)) ⌝ }
+{
+    match header::header_of(f) {
+        HeaderAnswer::Refused(r) => OpenedAnswer::Refused(r),
+        HeaderAnswer::Got(h) => mapped(f, h),
+    }
+}
+
+// What the item at a place is read against.
+fn walk_in(h: Header, handles: u32, item: usize) -> Walk
+    ensures { λ r. ⌜ r ≡ walk-in h handles item ⌝ }
+{
+    encoded_value::walk_of(header::frame_of(h, handles), item)
+}
+
+fn array_under(f: &[u8], h: Header, handles: u32, place: usize) -> Count
+    ensures { λ r. ⌜ count-outcome r ≡ arrayUnder (now (f .entry)) place h handles ⌝ }
+{
+    if frame::is_allowed(h.start, h.end, false, place) {
+        return value_bodies::array_count(
+            header::section_of(f, h),
+            walk_in(h, handles, place),
+            place,
+        );
+    }
+    Count::Refused(Refusal {
+        number: 7,
+        place: 0,
+    })
+}
+
+// How many values the array at a place has.
+pub fn array(f: &[u8], place: usize) -> Count
+    ensures { λ r. ⌜ count-outcome r ≡ arrayOf (now (f .entry)) place ⌝ }
+{
+    match opened(f) {
+        OpenedAnswer::Refused(r) => Count::Refused(r),
+        OpenedAnswer::Got(o) => {
+            let h = o.header;
+            array_under(f, h, o.handles, place)
+        }
+    }
+}
+
+fn array_value_under(f: &[u8], h: Header, handles: u32, place: usize, k: u32) -> Picked
+    ensures { λ r. ⌜ picked-outcome r ≡ arrayValueUnder (now (f .entry)) place k h handles ⌝ }
+{
+    if frame::is_allowed(h.start, h.end, false, place) {
+        return value_bodies::array_value(
+            header::section_of(f, h),
+            walk_in(h, handles, place),
+            place,
+            k,
+        );
+    }
+    Picked::Refused(Refusal {
+        number: 7,
+        place: 0,
+    })
+}
+
+// Value k of the array at a place.
+pub fn array_value(f: &[u8], place: usize, k: u32) -> Picked
+    ensures { λ r. ⌜ picked-outcome r ≡ arrayValueOf (now (f .entry)) place k ⌝ }
+{
+    match opened(f) {
+        OpenedAnswer::Refused(r) => Picked::Refused(r),
+        OpenedAnswer::Got(o) => {
+            let h = o.header;
+            array_value_under(f, h, o.handles, place, k)
+        }
+    }
+}
+
+fn body_under(f: &[u8], h: Header, handles: u32, place: usize) -> Head
+    ensures { λ r. ⌜ head-outcome r ≡ bodyUnder (now (f .entry)) place h handles ⌝ }
+{
+    if frame::is_allowed(h.start, h.end, false, place) {
+        return value_bodies::annotation_head(
+            header::section_of(f, h),
+            walk_in(h, handles, place),
+            place,
+        );
+    }
+    Head::Refused(Refusal {
+        number: 7,
+        place: 0,
+    })
+}
+
+// The type and the size of the annotation body at a place.
+pub fn annotation_body(f: &[u8], place: usize) -> Head
+    ensures { λ r. ⌜ head-outcome r ≡ bodyOf (now (f .entry)) place ⌝ }
+{
+    match opened(f) {
+        OpenedAnswer::Refused(r) => Head::Refused(r),
+        OpenedAnswer::Got(o) => {
+            let h = o.header;
+            body_under(f, h, o.handles, place)
+        }
+    }
+}
+
+fn element_under(f: &[u8], h: Header, handles: u32, place: usize, k: u32) -> Element
+    ensures { λ r. ⌜ element-outcome r ≡ elementUnder (now (f .entry)) place k h handles ⌝ }
+{
+    if frame::is_allowed(h.start, h.end, false, place) {
+        return value_bodies::annotation_element(
+            header::section_of(f, h),
+            walk_in(h, handles, place),
+            place,
+            k,
+        );
+    }
+    Element::Refused(Refusal {
+        number: 7,
+        place: 0,
+    })
+}
+
+// Element k of the annotation body at a place.
+pub fn annotation_body_element(f: &[u8], place: usize, k: u32) -> Element
+    ensures { λ r. ⌜ element-outcome r ≡ elementOf (now (f .entry)) place k ⌝ }
+{
+    match opened(f) {
+        OpenedAnswer::Refused(r) => Element::Refused(r),
+        OpenedAnswer::Got(o) => {
+            let h = o.header;
+            element_under(f, h, o.handles, place, k)
+        }
+    }
+}
+
+// How many values the array of a class has, 0 where it is absent.
+fn values_in(f: &[u8], h: Header, handles: u32, at: u32) -> Count
+    ensures { λ r. ⌜ count-outcome r ≡ valuesIn (now (f .entry)) h handles at ⌝ }
+{
+    let place = at as usize;
+    if 0 < at {
+        return value_bodies::array_count(
+            header::section_of(f, h),
+            walk_in(h, handles, place),
+            place,
+        );
+    }
+    Count::Got(0)
+}
+
+fn values_under(f: &[u8], h: Header, handles: u32, c: u32) -> Count
+    ensures { λ r. ⌜ count-outcome r ≡ valuesUnder (now (f .entry)) c h handles ⌝ }
+{
+    match super::tables::class_in(f, h, c) {
+        ClassAnswer::Refused(r) => Count::Refused(r),
+        ClassAnswer::Got(found) => values_in(f, h, handles, found.values),
+    }
+}
+
+// How many static values class c has.
+pub fn static_value_count(f: &[u8], c: u32) -> Count
+    ensures { λ r. ⌜ count-outcome r ≡ staticCount (now (f .entry)) c ⌝ }
+{
+    match opened(f) {
+        OpenedAnswer::Refused(r) => Count::Refused(r),
+        OpenedAnswer::Got(o) => {
+            let h = o.header;
+            values_under(f, h, o.handles, c)
+        }
+    }
+}
+
+// Value k of the array of a class.
+fn value_in(f: &[u8], h: Header, handles: u32, at: u32, k: u32) -> Picked
+    ensures { λ r. ⌜ picked-outcome r ≡ valueIn (now (f .entry)) h handles at k ⌝ }
+{
+    let place = at as usize;
+    if 0 < at {
+        return value_bodies::array_value(
+            header::section_of(f, h),
+            walk_in(h, handles, place),
+            place,
+            k,
+        );
+    }
+    Picked::Refused(Refusal {
+        number: 7,
+        place: 0,
+    })
+}
+
+fn value_under(f: &[u8], h: Header, handles: u32, c: u32, k: u32) -> Picked
+    ensures { λ r. ⌜ picked-outcome r ≡ valueUnder (now (f .entry)) c k h handles ⌝ }
+{
+    match super::tables::class_in(f, h, c) {
+        ClassAnswer::Refused(r) => Picked::Refused(r),
+        ClassAnswer::Got(found) => value_in(f, h, handles, found.values, k),
+    }
+}
+
+// Static value k of class c.
+pub fn static_value(f: &[u8], c: u32, k: u32) -> Picked
+    ensures { λ r. ⌜ picked-outcome r ≡ staticValue (now (f .entry)) c k ⌝ }
+{
+    match opened(f) {
+        OpenedAnswer::Refused(r) => Picked::Refused(r),
+        OpenedAnswer::Got(o) => {
+            let h = o.header;
+            value_under(f, h, o.handles, c, k)
+        }
+    }
+}
