@@ -184,7 +184,21 @@ def line(name, s):
             said += pick(read, lambda c: (c[3][h][0], len(c[3][h][1]), c[3][h][2]) if h < len(c[3]) else None)
         for h, k in ((0, 0), (1, 1)):
             said += pick(read, lambda c: at(c[3][h][1], k) if h < len(c[3]) else None)
+        for a in (0, 1, 2, 4):
+            said += pick(read, lambda c: (next((i for i, t in enumerate(c[1]) if t[0] <= a < t[0] + t[1]), 'none'),))
+        for n in (2, 4 if name[0] == 'x' else 3):
+            said += ',' + units(s, n, 'little' if name[0] == 'x' else 'big')
     return f'{name}:{said}'
+
+
+def units(s, count, order):
+    """`count` units from 20 on, into three that are 7."""
+    if len(s) < 20 + 2 * count:
+        return ' refused 9 at 20 7 7 7'
+    if 3 < count:
+        return ' refused 19 at 0 7 7 7'
+    got = [int.from_bytes(s[20 + 2 * i:22 + 2 * i], order) for i in range(count)]
+    return numbers(count, *(got + [7, 7, 7])[:3])
 
 
 def item(text):

@@ -4,9 +4,12 @@ use class_data::DataAnswer;
 use class_data::MemberAnswer;
 use code_item::Catch;
 use code_item::CodeAnswer;
+use code_item::Cover;
+use code_item::CoverAnswer;
 use code_item::HandlerAnswer;
 use code_item::PairAnswer;
 use code_item::TryAnswer;
+use code_units::UnitsAnswer;
 use debug_info::DebugAnswer;
 use debug_info::Name;
 use debug_info::NameAnswer;
@@ -167,6 +170,41 @@ fn code(s: &[u8], f: Frame) {
     }
 }
 
+fn cover(s: &[u8], f: Frame, address: u32) {
+    text(b",");
+    match code_item::covering_try(s, f, 4, address) {
+        CoverAnswer::Refused(r) => refused(r),
+        CoverAnswer::Got(c) => match c {
+            Cover::Nothing => text(b" none"),
+            Cover::Number(n) => number(n as u64),
+        },
+    }
+}
+
+fn unit(u: u16) {
+    number(u as u64);
+}
+
+// The units from 20 on into an output of three, which is 7 where nothing is written.
+fn units(s: &[u8], order: Endian, count: u32) {
+    let mut out = [7u16; 3];
+    text(b",");
+    match code_units::units_into(s, order, 20, count, &mut out) {
+        UnitsAnswer::Refused(r) => refused(r),
+        UnitsAnswer::Written(n) => number(n as u64),
+    }
+    unit(out[0]);
+    unit(out[1]);
+    unit(out[2]);
+}
+
+fn covers(s: &[u8], f: Frame) {
+    cover(s, f, 0);
+    cover(s, f, 1);
+    cover(s, f, 2);
+    cover(s, f, 4);
+}
+
 fn code_parts(s: &[u8], f: Frame) {
     code(s, f);
     attempt(s, f, 0);
@@ -190,9 +228,15 @@ fn one(label: &[u8], s: &[u8]) {
     }
     if kind == 120 {
         code_parts(s, frame_of(Endian::Little));
+        covers(s, frame_of(Endian::Little));
+        units(s, Endian::Little, 2);
+        units(s, Endian::Little, 4);
     }
     if kind == 88 {
         code_parts(s, frame_of(Endian::Big));
+        covers(s, frame_of(Endian::Big));
+        units(s, Endian::Big, 2);
+        units(s, Endian::Big, 3);
     }
     text(b"\n");
 }

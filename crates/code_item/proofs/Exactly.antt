@@ -23,7 +23,8 @@ use Rattle.handlers.proofs.Exactly.{handlers-exact, handlers-lie}
 use Rattle.code_item.specs.declared.Head.{Head}
 use Rattle.code_item.specs.declared.Try.{Try}
 use Rattle.code_item.specs.Tries.{tryAt, tryAllowed, Run, judged, stepAt, begin, triesAt, covers, linked, isStart, linkAt, linksAt}
-use Rattle.code_item.specs.Code.{headAt, bodySize, unitsAt, judge-of, listAt, Code, partsAt, bodyAt, codeAt}
+use Rattle.code_units.specs.Units.{unitsAt}
+use Rattle.code_item.specs.Code.{headAt, bodySize, judge-of, listAt, Code, partsAt, bodyAt, codeAt}
 use Rattle.code_item.specs.Rules.{read-head, HeadRule, TryRule, LinkRule, CodeRule}
 
 head-exact : (s : List ℕ) (f : Frame) (item : ℕ) → Exact (headAt s f item) (HeadRule s f item)

@@ -2,3 +2,4 @@ pub mod Exactly
 pub mod Laws
 pub mod Stages
 pub mod Once
+pub mod Covering

@@ -37,7 +37,8 @@ use Rattle.code_item.specs.declared.TryFound.{TryFound}
 use Rattle.code_item.specs.declared.Number.{Number}
 use Rattle.code_item.specs.declared.KeptAnswer.{KeptAnswer}
 use Rattle.code_item.specs.Tries.{Run, stepAt, begin, triesAt, linked, isStart, linkAt, linksAt, no-try, item-alone, keptTry, startAt, walkAt, keptLink}
-use Rattle.code_item.specs.Code.{headAt, padding, bodySize, unitsAt, judge-of, listAt, Code, partsAt, bodyAt, codeAt, outlineAt, Linked, tryOf, Handed, handlerOf, pairOf, Kept, kept, keptAt, linkedStage, listedStage, partsStage, bodyStage, catchIn, pairIn}
+use Rattle.code_units.specs.Units.{unitsAt}
+use Rattle.code_item.specs.Code.{headAt, padding, bodySize, judge-of, listAt, Code, partsAt, bodyAt, codeAt, outlineAt, Linked, tryOf, Handed, handlerOf, pairOf, Kept, kept, keptAt, linkedStage, listedStage, partsStage, bodyStage, catchIn, pairIn}
 use Rattle.code_item.specs.Answers.{head-outcome, try-found, number-outcome, kept-outcome, catch-meant}
 
 -- what follows a test that holds, under what comes after

@@ -16,6 +16,8 @@ use Rattle.code_item.specs.declared.TryAnswer as T
 use Rattle.code_item.specs.declared.Catch as A
 use Rattle.code_item.specs.declared.HandlerAnswer as H
 use Rattle.code_item.specs.declared.PairAnswer as P
+use Rattle.code_item.specs.declared.Cover as O
+use Rattle.code_item.specs.declared.CoverAnswer as W
 
 abbrev pub head-outcome : E.HeadAnswer → Outcome Head
 head-outcome (E.the-variants.Got h) = answer h
@@ -52,3 +54,11 @@ handler-outcome (H.the-variants.Refused r) = refused r
 abbrev pub pair-outcome : P.PairAnswer → Outcome Pair
 pair-outcome (P.the-variants.Got p) = answer p
 pair-outcome (P.the-variants.Refused r) = refused r
+
+abbrev pub cover-meant : O.Cover → Option ℕ
+cover-meant O.the-variants.Nothing = none
+cover-meant (O.the-variants.Number n) = some n
+
+abbrev pub cover-outcome : W.CoverAnswer → Outcome (Option ℕ)
+cover-outcome (W.the-variants.Got c) = answer (cover-meant c)
+cover-outcome (W.the-variants.Refused r) = refused r

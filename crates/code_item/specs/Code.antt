@@ -1,11 +1,12 @@
 -- A code item as a reading: "its own bytes, whole, in stored order".
-use Prim.Native.Nat.{ℕ, zero, suc, _+_, _*_, _%_}
+use Prim.Native.Nat.{ℕ, _+_, _*_, _%_}
 use mathlib.Core.Bool.{false, cond, _&&_}
 use mathlib.Core.Option.{Option, none, some}
-use mathlib.Core.List.{List, [], _∷_}
+use mathlib.Core.List.{List, []}
 use lib.ListN.{length, getD}
 use lib.Dec.{ltb, leb, eqb}
 use Rattle.refusal.specs.Outcome.{Outcome, answer, _>>=_, given}
+use Rattle.refusal.specs.Seek.{position}
 use Rattle.word.specs.Words.{u16At, u32At}
 use Rattle.word.specs.declared.Endian.{Endian}
 use Rattle.frame.specs.declared.Frame.{Frame}
@@ -14,10 +15,11 @@ use Rattle.handlers.specs.declared.Judge.{Judge}
 use Rattle.handlers.specs.declared.Pair.{Pair}
 use Rattle.handlers.specs.declared.Brief.{Brief}
 use Rattle.handlers.specs.Handlers as H
+use Rattle.code_units.specs.Units.{unitsAt}
 use Rattle.code_item.specs.declared.Head.{Head}
 use Rattle.code_item.specs.declared.Try.{Try}
 use Rattle.code_item.specs.declared.Outline.{Outline}
-use Rattle.code_item.specs.Tries.{triesAt, linksAt, no-try, keptTry, keptLink}
+use Rattle.code_item.specs.Tries.{covers, triesAt, linksAt, no-try, keptTry, keptLink}
 
 -- fields in stored order: a debug offset that is there and wrong (8) comes before a later field that is missing (9)
 unfoldable pub headAt : List ℕ → Frame → ℕ → Outcome Head
@@ -41,11 +43,6 @@ padding tries units = cond (ltb 0 tries && eqb (units % 2) 1) 2 0
 -- how far from the item the tries are, and how far the handler list
 unfoldable pub bodySize : Head → ℕ
 bodySize h = 16 + 2 * h .units + padding (h .tries) (h .units)
-
--- the units, in the file's byte order
-unfoldable pub unitsAt : Endian → List ℕ → ℕ → ℕ → List ℕ
-unitsAt o s p zero = []
-unitsAt o s p (suc n) = u16At o s p ∷ unitsAt o s (p + 2) n
 
 abbrev pub judge-of : Frame → ℕ → Head → ℕ → Judge
 judge-of f item h base = record { types = f .types; units = h .units; item = item; base = base }
@@ -94,6 +91,12 @@ outlineAt s f item = do
 pub record Linked : Type 0 where
   pub attempt : Try
   pub number : ℕ
+
+-- "Asking which try covers an address answers "none" exactly when no try does."
+unfoldable pub coveringOf : List ℕ → Frame → ℕ → ℕ → Outcome (Option ℕ)
+coveringOf s f item address = do
+  c ← codeAt s f item
+  answer (position (covers address) (c .tries))
 
 -- by number: the item's own rules first, then 7
 unfoldable pub tryOf : List ℕ → Frame → ℕ → ℕ → Outcome Linked

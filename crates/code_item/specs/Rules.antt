@@ -17,7 +17,8 @@ use Rattle.handlers.specs.Rules.{HandlersRule}
 use Rattle.code_item.specs.declared.Head.{Head}
 use Rattle.code_item.specs.declared.Try.{Try}
 use Rattle.code_item.specs.Tries.{tryAt, Run, begin, isStart}
-use Rattle.code_item.specs.Code.{bodySize, unitsAt, judge-of, Code}
+use Rattle.code_units.specs.Units.{unitsAt}
+use Rattle.code_item.specs.Code.{bodySize, judge-of, Code}
 
 -- six fields, and a debug offset that is 0 or lies in the data section
 abbrev pub read-head : Endian → List ℕ → ℕ → Head

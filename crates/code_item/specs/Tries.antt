@@ -2,7 +2,7 @@
 use Prim.Native.Nat.{ℕ, zero, suc, _+_}
 use mathlib.Core.Bool.{Bool, cond, _&&_}
 use mathlib.Core.Option.{Option, none, some}
-use mathlib.Core.List.{List}
+use mathlib.Core.List.{List, [], _∷_}
 use lib.Dec.{ltb, leb, eqb}
 use Rattle.refusal.specs.Outcome.{Outcome, answer, refused, _>>=_, given}
 use Rattle.refusal.specs.Rows.{Found, collect}
@@ -80,3 +80,11 @@ walkAt o s j first handlers p = do
 
 unfoldable pub keptLink : Endian → List ℕ → Judge → ℕ → ℕ → ℕ → ℕ → ℕ → Outcome ℕ
 keptLink o s j first handlers from count k = choose count (walkAt o s j first handlers) 0 k from >>= item-alone
+
+-- the tries that lie from p on, and the number of the first that covers an address
+unfoldable pub triesFrom : Endian → List ℕ → ℕ → ℕ → List Try
+triesFrom o s p zero = []
+triesFrom o s p (suc n) = tryAt o s p ∷ triesFrom o s (p + 8) n
+
+unfoldable pub coverAt : Endian → List ℕ → ℕ → ℕ → ℕ → Option ℕ
+coverAt o s from count address = position (covers address) (triesFrom o s from count)

@@ -12,9 +12,9 @@ ghost use mathlib.Core.Path.{_≡_};
 ghost use mathlib.Core.Bool.{cond};
 ghost use Prim.Native.Nat.{_+_, _*_, _≤_};
 ghost use lib.ListN.{length};
-ghost use Rattle.code_item.specs.Tries.{tryAt, tryAllowed, keptTry, keptLink};
-ghost use Rattle.code_item.specs.Code.{headAt, padding, bodySize, linkedStage, listedStage, partsStage, bodyStage, keptAt, outlineAt, tryOf, handlerOf, pairOf, catchIn, pairIn};
-ghost use Rattle.code_item.specs.Answers.{head-outcome, try-found, number-outcome, kept-outcome, code-outcome, try-outcome, catch-meant, handler-outcome, pair-outcome};
+ghost use Rattle.code_item.specs.Tries.{tryAt, tryAllowed, keptTry, keptLink, covers, coverAt};
+ghost use Rattle.code_item.specs.Code.{headAt, padding, bodySize, linkedStage, listedStage, partsStage, bodyStage, keptAt, outlineAt, tryOf, handlerOf, pairOf, coveringOf, catchIn, pairIn};
+ghost use Rattle.code_item.specs.Answers.{head-outcome, try-found, number-outcome, kept-outcome, code-outcome, try-outcome, catch-meant, handler-outcome, pair-outcome, cover-meant, cover-outcome};
 
 // The head of a code item, in stored order.
 pub struct Head {
@@ -100,6 +100,17 @@ pub enum HandlerAnswer {
 
 pub enum PairAnswer {
     Got(Pair),
+    Refused(Refusal),
+}
+
+// The number of the try that covers an address.
+pub enum Cover {
+    Nothing,
+    Number(u32),
+}
+
+pub enum CoverAnswer {
+    Got(Cover),
     Refused(Refusal),
 }
 
@@ -574,5 +585,57 @@ pub fn pair_at(s: &[u8], f: Frame, item: usize, h: u32, k: u32) -> PairAnswer
                 place: 0,
             })
         }
+    }
+}
+
+// Does a try cover an address.
+fn is_covering(t: Try, address: u32) -> bool
+    ensures { λ r. ⌜ r ≡ covers address t ⌝ }
+{
+    let start = t.start as u64;
+    let a = address as u64;
+    if a < start {
+        return false;
+    }
+    a < start + t.count as u64
+}
+
+// The first try that covers an address, of those that lie from a place on.
+fn cover_at(s: &[u8], order: Endian, from: usize, count: u16, address: u32) -> Cover
+    requires { ⌜ from + 8 * count ≤ length (now s) ⌝ }
+    ensures { λ r. ⌜ cover-meant r ≡ coverAt order (now (s .entry)) from count address ⌝ }
+{
+    let mut place = from;
+    let mut i: u32 = 0;
+    let mut left = count;
+    while 0 < left {
+        let t = try_read(s, order, place);
+        if is_covering(t, address) {
+            return Cover::Number(i);
+        }
+        place += 8;
+        i += 1;
+        left -= 1;
+    }
+    Cover::Nothing
+}
+
+// The try that covers an address, of the code item at a place.
+pub fn covering_try(s: &[u8], f: Frame, item: usize, address: u32) -> CoverAnswer
+    ensures { λ r. ⌜ cover-outcome r ≡ coveringOf (now (s .entry)) f item address ⌝ }
+{
+    let order = f.order;
+    match kept_at(s, f, item, 0, 0, 0) {
+        KeptAnswer::Refused(r) => CoverAnswer::Refused(r),
+        KeptAnswer::Got {
+            head,
+            attempt: _,
+            link: _,
+            handlers: _,
+            brief: _,
+            from,
+            base: _,
+            end: _,
+        } => CoverAnswer::Got(cover_at(s, order, from, head.tries, address)),
     }
 }

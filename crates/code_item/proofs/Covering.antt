@@ -1,0 +1,155 @@
+-- The try that covers an address: the loop of `cover_at`, and that what is found is the only one.
+-- Assumes nothing.
+use Prim.Native.Nat.{ℕ, zero, suc, _+_, _-_, _*_, _<_, _≤_}
+use mathlib.Core.Path.{_≡_, refl, ap, sym, _∙_}
+use mathlib.Core.Bool.{Bool, true, false, cond}
+use mathlib.Core.Option.{Option, none, some}
+use mathlib.Core.List.{List, _∷_}
+use lib.ListN.{length}
+use lib.Dec.{ltb}
+use borrow.Author.Needs.{needs}
+use borrow.Author.Tests.{le-leb, lt-leb}
+use native.Mathlib.Omega.{arith}
+use Rattle.refusal.specs.declared.Refusal.{Refusal}
+use Rattle.refusal.specs.Outcome.{Outcome, answer, refused, _>>=_}
+use Rattle.refusal.specs.Seek.{position, later}
+use Rattle.refusal.specs.Exact.{Row, empty, first, At, Sought}
+use Rattle.refusal.proofs.Laws.{bind-answer}
+use Rattle.refusal.proofs.Exact.{never, answer-exact, bind-exact}
+use Rattle.refusal.proofs.Seek.{position-sought}
+use Rattle.word.specs.declared.Endian.{Endian}
+use Rattle.frame.specs.declared.Frame.{Frame}
+use Rattle.handlers.specs.declared.Brief.{Brief}
+use Rattle.code_item.specs.declared.Head.{Head}
+use Rattle.code_item.specs.declared.Try.{Try}
+use Rattle.code_item.specs.declared.Cover.{Cover}
+use Rattle.code_item.specs.declared.KeptAnswer.{KeptAnswer}
+use Rattle.code_item.specs.declared.KeptAnswer.the-variants as K
+use Rattle.code_item.specs.Tries.{tryAt, Run, covers, triesFrom, coverAt}
+use Rattle.code_item.specs.Code.{Code, codeAt, coveringOf, Kept, kept, keptAt}
+use Rattle.code_item.specs.Rules.{TryRule, CodeRule}
+use Rattle.code_item.specs.Answers.{kept-outcome, cover-meant}
+use Rattle.code_item.proofs.Exactly.{code-exact, code-lies, Covers, covers-decides, covered-once}
+
+abbrev from-number : ℕ → Option ℕ → Option ℕ
+from-number n none = none
+from-number n (some k) = some (n + k)
+
+-- ---- the loop of `cover_at` at its head: the first i tries do not cover the address
+pub record Looking (o : Endian) (s : List ℕ) (from count address left place i : ℕ) : Type 0 where
+  same : coverAt o s from count address ≡ from-number i (position (covers address) (triesFrom o s place left))
+  pub sum : i + left ≡ count
+  pub room : place + 8 * left ≤ length s
+
+pub looking-first : (o : Endian) (s : List ℕ) (from count address : ℕ) → from + 8 * count ≤ length s → Looking o s from count address count from 0
+unfolding coverAt
+looking-first o s from count address h = record { same = go (position (covers address) (triesFrom o s from count)); sum = omega arith; room = h }
+  where
+    go : (x : Option ℕ) → x ≡ from-number 0 x
+    go none = refl
+    go (some k) = let z : k ≡ 0 + k = omega arith in ap some z
+
+module _ {o : Endian} {s : List ℕ} {from count address left place i : ℕ} (h : Looking o s from count address left place i) where
+  pub looking-room : 0 < left → place + 8 ≤ length s
+  looking-room l = let z = h .room in omega arith
+
+  module _ {t : Try} {b : Bool} (l : 0 < left) (read : t ≡ tryAt o s place) (asked : b ≡ covers address t) where
+    opened : position (covers address) (triesFrom o s place left) ≡ cond b (some 0) (later (position (covers address) (triesFrom o s (place + 8) (left - 1))))
+    unfolding triesFrom position
+    opened = go left l ∙ λ k. cond (sym (asked ∙ ap (covers address) read) k) (some 0) (later (position (covers address) (triesFrom o s (place + 8) (left - 1))))
+      where
+        go : (n : ℕ) → 0 < n → position (covers address) (triesFrom o s place n) ≡ cond (covers address (tryAt o s place)) (some 0) (later (position (covers address) (triesFrom o s (place + 8) (n - 1))))
+        go zero q = absurd (omega arith)
+        go (suc n) q =
+            let back : suc n - 1 ≡ n = omega arith in
+            rw back
+
+    pub looking-found : b ≡ true → some i ≡ coverAt o s from count address
+    looking-found e =
+        let z : i + 0 ≡ i = omega arith in
+        sym (h .same ∙ ap (from-number i) (opened ∙ ap (λ (c : Bool). cond c (some 0) (later (position (covers address) (triesFrom o s (place + 8) (left - 1))))) e) ∙ ap some z)
+
+    pub looking-next : b ≡ false → Looking o s from count address (left - 1) (place + 8) (i + 1)
+    looking-next e = record {
+      same = h .same ∙ ap (from-number i) (opened ∙ ap (λ (c : Bool). cond c (some 0) (later (position (covers address) (triesFrom o s (place + 8) (left - 1))))) e) ∙ go (position (covers address) (triesFrom o s (place + 8) (left - 1)));
+      sum = let z = h .sum in omega arith;
+      room = let z = h .room in omega arith;
+    }
+      where
+        go : (x : Option ℕ) → from-number i (later x) ≡ from-number (i + 1) x
+        go none = refl
+        go (some k) = let z : i + suc k ≡ i + 1 + k = omega arith in ap some z
+
+  pub looking-none : left ≤ 0 → none ≡ coverAt o s from count address
+  unfolding triesFrom position
+  looking-none l =
+      let z : left ≡ 0 = omega arith in
+      sym (h .same ∙ ap (λ (n : ℕ). from-number i (position (covers address) (triesFrom o s place n))) z)
+
+module _ (t : Try) (address : ℕ) where
+  pub cover-low : address < t .start → false ≡ covers address t
+  unfolding covers
+  cover-low h = rw (lt-leb (t .start) address h)
+
+  pub cover-high : t .start ≤ address → ltb address (t .start + t .count) ≡ covers address t
+  unfolding covers
+  cover-high h = rw (le-leb (t .start) address h)
+
+-- ---- the tries of an item that was read are those that lie there
+tries-are : (o : Endian) (s : List ℕ) (units : ℕ) {n : ℕ} {r u : Run} {l : List Try} → Row (TryRule o s units) n r l u → triesFrom o s (r .place) n ≡ l
+unfolding triesFrom
+tries-are o s units empty = refl
+tries-are o s units (first {n = n} {l = l} {s = r} {t = v} h rest) = λ i. h .bytes i ∷ (ap (λ (p : ℕ). triesFrom o s p n) (h .place) ∙ tries-are o s units rest) i
+
+module _ (s : List ℕ) (f : Frame) (item address : ℕ) {x : KeptAnswer} (e : kept-outcome x ≡ keptAt s f item 0 0 0) where
+  pub covering-refused : {r : Refusal} → x ≡ K.Refused r → refused r ≡ coveringOf s f item address
+  unfolding coveringOf keptAt _>>=_
+  covering-refused {r} t = go (codeAt s f item) (sym (ap kept-outcome t) ∙ e)
+    where
+      go : (o : Outcome Code) → refused r ≡ (o >>= kept 0 0 0) → refused r ≡ (o >>= λ (c : Code). answer (position (covers address) (c .tries)))
+      go (answer c) h = absurd (never h)
+      go (refused q) h = cc
+
+  module _ {head : Head} {a : Try} {l n : ℕ} {b : Brief} {from base end : ℕ} (t : x ≡ K.Got head a l n b from base end) where
+    record Behind : Type 0 where
+      code : Code
+      rule : CodeRule s f item code
+      head-is : code .head ≡ head
+      from-is : code .from ≡ from
+
+    behind : Behind
+    unfolding keptAt
+    behind =
+        let all = bind-exact _ _ (code-exact s f item) (λ c. answer-exact _) in
+        let found = all .sound (record { head = head; attempt = a; link = l; handlers = n; brief = b; from = from; base = base; end = end }) (sym (sym (ap kept-outcome t) ∙ e)) in
+        record { code = found .0; rule = found .1 .0; head-is = ap (λ (k : Kept). k .head) (found .1 .1); from-is = ap (λ (k : Kept). k .from) (found .1 .1) }
+
+    pub covering-room : from + 8 * head .tries ≤ length s
+    covering-room =
+        let c = behind in
+        let w = code-lies s f item (c .code) (c .rule) in
+        let tries = ap (λ (h : Head). h .tries) (c .head-is) in
+        let place = c .from-is in
+        let p = w .tries-inside in
+        let q = w .base-inside in
+        let r = w .inside in
+        omega arith
+
+    pub covering-got : (v : Cover) → cover-meant v ≡ coverAt (f .order) s from (head .tries) address → answer (cover-meant v) ≡ coveringOf s f item address
+    unfolding coveringOf coverAt
+    covering-got v g =
+        let c = behind in
+        sym (bind-answer _ (code-exact s f item .complete (c .code) (c .rule))
+        ∙ ap (λ (ts : List Try). answer (position (covers address) ts)) (sym (tries-are (f .order) s (c .code .head .units) (c .rule .tries)) ∙ λ i. triesFrom (f .order) s (c .from-is i) (c .head-is i .tries))
+        ∙ ap answer (sym g))
+
+-- ---- what is answered is a try that covers the address, or none where no try does, and at most one does
+pub covering-sought : (c : Code) (address : ℕ) → Sought (Covers address) (c .tries) (position (covers address) (c .tries))
+covering-sought c address = position-sought (covers address) (covers-decides address) (c .tries)
+
+pub covering-once : (s : List ℕ) (f : Frame) (item : ℕ) (c : Code) → CodeRule s f item c → (address i j : ℕ) (a b : Try) → At (c .tries) i a → At (c .tries) j b → Covers address a → Covers address b → i ≡ j
+covering-once s f item c h address i j a b m n p q = covered-once (f .order) s (c .head .units) address (h .tries) m n p q
+
+pub ruleset cover-laws = (looking-first, looking-room, looking-found, looking-next, looking-none, cover-low, cover-high, needs)
+
+pub ruleset covering-laws = (covering-refused, covering-room, covering-got, needs)
