@@ -4,3 +4,4 @@ pub mod ListLaws
 pub mod DirectoryLaws
 pub mod ItemLaws
 pub mod Once
+pub mod Kth
