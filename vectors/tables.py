@@ -158,9 +158,10 @@ def listed(count, n, place):
 
 
 def flags(value):
-    got = [i for i in range(18) if value >> i & 1 and i not in (6, 7)]
+    every = [i for i in range(18) if value >> i & 1]
+    got = [i for i in every if i not in (6, 7)]
     room = lambda n: 'refused 19 at 0' if len(got) > n else str(len(got))
-    return f'{len(got)}' + ''.join(f' {i}' for i in got) + f' into 15: {room(15)} into 0: {room(0)}'
+    return f'{len(got)}' + ''.join(f' {i}' for i in got) + f', of a member {len(every)}' + ''.join(f' {i}' for i in every) + f' into 15: {room(15)} into 0: {room(0)}'
 
 
 def flagged(count, n, question):

@@ -165,6 +165,25 @@ fn flags(f: &[u8], n: u32) {
     }
 }
 
+// The flags of a class as those of a field or a method would come out.
+fn member_flags(c: Class) {
+    let mut out = [0u8; 18];
+    text(b", of a member ");
+    let a = access_flags::flags_into(c.flags, false, &mut out);
+    count(a);
+    match a {
+        FlagsAnswer::Refused(_) => {}
+        FlagsAnswer::Got(k) => bytes(word::bytes_at(&out, 0, k)),
+    }
+}
+
+fn flags_of_member(f: &[u8], n: u32) {
+    match dex::class(f, n) {
+        ClassAnswer::Refused(_) => {}
+        ClassAnswer::Got(c) => member_flags(c),
+    }
+}
+
 fn flags_short(f: &[u8], n: u32) {
     let mut fifteen = [0u8; 15];
     text(b" into 15: ");
@@ -182,6 +201,7 @@ fn class(f: &[u8], n: u32) {
     }
     list(f, n, true);
     flags(f, n);
+    flags_of_member(f, n);
     flags_short(f, n);
 }
 
