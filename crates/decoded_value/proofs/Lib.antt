@@ -2,4 +2,3 @@ pub mod Signs
 pub mod Floats
 pub mod Laws
 pub mod Once
-pub mod Examples

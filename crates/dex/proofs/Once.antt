@@ -7,7 +7,10 @@ use Rattle.refusal.proofs.Laws.{one-to-one}
 use Rattle.map_list.specs.declared.Entry.{Entry}
 use Rattle.dex.specs.declared.CountAnswer as C
 use Rattle.dex.specs.declared.EntryAnswer as E
-use Rattle.dex.specs.Answers.{count-outcome, entry-outcome}
+use Rattle.dex.specs.declared.ArrayAnswer as A
+use Rattle.dex.specs.declared.BodyAnswer as B
+use Rattle.dex.specs.Values.{Sized, NotedSize}
+use Rattle.dex.specs.Answers.{count-outcome, entry-outcome, array-outcome, body-outcome}
 
 count-back : Outcome ℕ → C.CountAnswer
 count-back (answer n) = C.the-variants.Got n
@@ -32,3 +35,27 @@ entry-told (E.the-variants.Refused r) = refl
 
 pub entry-once : (x y : E.EntryAnswer) → entry-outcome x ≡ entry-outcome y → x ≡ y
 entry-once = one-to-one entry-outcome entry-back entry-told
+
+array-back : Outcome Sized → A.ArrayAnswer
+array-back (answer a) = A.the-variants.Got (a .count) (a .length)
+array-back (refused r) = A.the-variants.Refused r
+
+array-told : (x : A.ArrayAnswer) → array-back (array-outcome x) ≡ x
+unfolding array-back
+array-told (A.the-variants.Got n l) = refl
+array-told (A.the-variants.Refused r) = refl
+
+pub array-once : (x y : A.ArrayAnswer) → array-outcome x ≡ array-outcome y → x ≡ y
+array-once = one-to-one array-outcome array-back array-told
+
+body-back : Outcome NotedSize → B.BodyAnswer
+body-back (answer a) = B.the-variants.Got (a .type-index) (a .count) (a .length)
+body-back (refused r) = B.the-variants.Refused r
+
+body-told : (x : B.BodyAnswer) → body-back (body-outcome x) ≡ x
+unfolding body-back
+body-told (B.the-variants.Got t n l) = refl
+body-told (B.the-variants.Refused r) = refl
+
+pub body-once : (x y : B.BodyAnswer) → body-outcome x ≡ body-outcome y → x ≡ y
+body-once = one-to-one body-outcome body-back body-told

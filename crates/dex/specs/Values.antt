@@ -1,5 +1,5 @@
 -- Values by place and by class as readings. "A body asked for by place is depth 1 and is itself the item."
-use Prim.Native.Nat.{ℕ}
+use Prim.Native.Nat.{ℕ, _-_}
 use mathlib.Core.Bool.{false, cond}
 use mathlib.Core.List.{List}
 use lib.Dec.{ltb}
@@ -10,8 +10,9 @@ use Rattle.header.specs.Header.{headerAt, section, frame-of}
 use Rattle.map_list.specs.Map.{keptAt}
 use Rattle.encoded_value.specs.declared.Walk.{Walk}
 use Rattle.encoded_value.specs.Kinds.{walkOf}
+use Rattle.encoded_value.specs.Readings.{pastArray, pastAnnotation}
 use Rattle.decoded_value.specs.Shown.{Shown}
-use Rattle.value_bodies.specs.Bodies.{Noted, ShownElement, arrayCount, arrayValue, annotationNoted, annotationElement}
+use Rattle.value_bodies.specs.Bodies.{ShownElement, arrayCount, arrayValue, annotationNoted, annotationElement}
 use Rattle.dex.specs.declared.Opened.{Opened}
 use Rattle.dex.specs.Tables.{classIn}
 
@@ -27,11 +28,34 @@ openedAt f = headerAt f >>= mappedAt f
 abbrev pub walk-in : Header → ℕ → ℕ → Walk
 walk-in h handles item = walkOf (frame-of h handles) item
 
--- "7: .. or a body place outside the data section"
-unfoldable pub arrayUnder : List ℕ → ℕ → Header → ℕ → Outcome ℕ
-arrayUnder f place h handles = given (allowed (h .start) (h .end) false place) 7 0 (arrayCount (section f h) (walk-in h handles place) place)
+-- how many values an array has, and its length in bytes
+pub record Sized : Type 0 where
+  pub count : ℕ
+  pub length : ℕ
 
-unfoldable pub arrayOf : List ℕ → ℕ → Outcome ℕ
+unfoldable pub arrayBody : List ℕ → Walk → ℕ → Outcome Sized
+arrayBody s w p = do
+  n ← arrayCount s w p
+  end ← pastArray s w 64 p
+  answer (record { count = n; length = end - p })
+
+-- the same of an annotation body, with its type
+pub record NotedSize : Type 0 where
+  pub type-index : ℕ
+  pub count : ℕ
+  pub length : ℕ
+
+unfoldable pub notedBody : List ℕ → Walk → ℕ → Outcome NotedSize
+notedBody s w p = do
+  n ← annotationNoted s w p
+  end ← pastAnnotation s w 64 p
+  answer (record { type-index = n .type-index; count = n .count; length = end - p })
+
+-- "7: .. or a body place outside the data section"
+unfoldable pub arrayUnder : List ℕ → ℕ → Header → ℕ → Outcome Sized
+arrayUnder f place h handles = given (allowed (h .start) (h .end) false place) 7 0 (arrayBody (section f h) (walk-in h handles place) place)
+
+unfoldable pub arrayOf : List ℕ → ℕ → Outcome Sized
 arrayOf f place = openedAt f >>= λ o. arrayUnder f place (o .header) (o .handles)
 
 unfoldable pub arrayValueUnder : List ℕ → ℕ → ℕ → Header → ℕ → Outcome Shown
@@ -40,10 +64,10 @@ arrayValueUnder f place k h handles = given (allowed (h .start) (h .end) false p
 unfoldable pub arrayValueOf : List ℕ → ℕ → ℕ → Outcome Shown
 arrayValueOf f place k = openedAt f >>= λ o. arrayValueUnder f place k (o .header) (o .handles)
 
-unfoldable pub bodyUnder : List ℕ → ℕ → Header → ℕ → Outcome Noted
-bodyUnder f place h handles = given (allowed (h .start) (h .end) false place) 7 0 (annotationNoted (section f h) (walk-in h handles place) place)
+unfoldable pub bodyUnder : List ℕ → ℕ → Header → ℕ → Outcome NotedSize
+bodyUnder f place h handles = given (allowed (h .start) (h .end) false place) 7 0 (notedBody (section f h) (walk-in h handles place) place)
 
-unfoldable pub bodyOf : List ℕ → ℕ → Outcome Noted
+unfoldable pub bodyOf : List ℕ → ℕ → Outcome NotedSize
 bodyOf f place = openedAt f >>= λ o. bodyUnder f place (o .header) (o .handles)
 
 unfoldable pub elementUnder : List ℕ → ℕ → ℕ → Header → ℕ → Outcome ShownElement

@@ -57,3 +57,19 @@ pub enum OpenedAnswer {
     Got(Opened),
     Refused(Refusal),
 }
+
+// How many values an array has, and its length in bytes.
+pub enum ArrayAnswer {
+    Got { count: u32, length: usize },
+    Refused(Refusal),
+}
+
+// The type of an annotation body, how many elements it has, and its length in bytes.
+pub enum BodyAnswer {
+    Got {
+        type_index: u32,
+        count: u32,
+        length: usize,
+    },
+    Refused(Refusal),
+}

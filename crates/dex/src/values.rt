@@ -1,7 +1,10 @@
 // Values by place and by class: header, map, 7 for a place outside the data section or a number, the item whole, 7 for the inner number.
+use super::ArrayAnswer;
+use super::BodyAnswer;
 use super::Opened;
 use super::OpenedAnswer;
 use class_ids::ClassAnswer;
+use encoded_value::Step;
 use encoded_value::Walk;
 use header::Header;
 use header::HeaderAnswer;
@@ -12,10 +15,10 @@ use value_bodies::Element;
 use value_bodies::Head;
 use value_bodies::Picked;
 ghost use mathlib.Core.Path.{_≡_};
-ghost use Rattle.value_bodies.specs.Answers.{count-outcome, picked-outcome, head-outcome, element-outcome};
-ghost use Rattle.dex.specs.Values.{openedAt, mappedAt, walk-in, arrayUnder, arrayOf, arrayValueUnder, arrayValueOf, bodyUnder, bodyOf, elementUnder, elementOf};
+ghost use Rattle.value_bodies.specs.Answers.{count-outcome, picked-outcome, element-outcome};
+ghost use Rattle.dex.specs.Values.{openedAt, mappedAt, walk-in, arrayBody, notedBody, arrayUnder, arrayOf, arrayValueUnder, arrayValueOf, bodyUnder, bodyOf, elementUnder, elementOf};
 ghost use Rattle.dex.specs.Values.{valuesIn, valuesUnder, staticCount, valueIn, valueUnder, staticValue};
-ghost use Rattle.dex.specs.Answers.{opened-outcome};
+ghost use Rattle.dex.specs.Answers.{opened-outcome, array-outcome, body-outcome};
 
 fn mapped(f: &[u8], h: Header) -> OpenedAnswer
     ensures { λ r. ⌜ opened-outcome r ≡ mappedAt (now (f .entry)) h ⌝ }
@@ -49,28 +52,40 @@ fn walk_in(h: Header, handles: u32, item: usize) -> Walk
     encoded_value::walk_of(header::frame_of(h, handles), item)
 }
 
-fn array_under(f: &[u8], h: Header, handles: u32, place: usize) -> Count
-    ensures { λ r. ⌜ count-outcome r ≡ arrayUnder (now (f .entry)) place h handles ⌝ }
+// An array's size, and its length in bytes.
+fn array_body(s: &[u8], w: Walk, place: usize) -> ArrayAnswer
+    ensures { λ r. ⌜ array-outcome r ≡ arrayBody (now (s .entry)) w place ⌝ }
+{
+    match value_bodies::array_count(s, w, place) {
+        Count::Refused(r) => ArrayAnswer::Refused(r),
+        Count::Got(count) => match encoded_value::top_array(s, w, place) {
+            Step::Refused(r) => ArrayAnswer::Refused(r),
+            Step::Next(end) => ArrayAnswer::Got {
+                count,
+                length: end - place,
+            },
+        },
+    }
+}
+
+fn array_under(f: &[u8], h: Header, handles: u32, place: usize) -> ArrayAnswer
+    ensures { λ r. ⌜ array-outcome r ≡ arrayUnder (now (f .entry)) place h handles ⌝ }
 {
     if frame::is_allowed(h.start, h.end, false, place) {
-        return value_bodies::array_count(
-            header::section_of(f, h),
-            walk_in(h, handles, place),
-            place,
-        );
+        return array_body(header::section_of(f, h), walk_in(h, handles, place), place);
     }
-    Count::Refused(Refusal {
+    ArrayAnswer::Refused(Refusal {
         number: 7,
         place: 0,
     })
 }
 
-// How many values the array at a place has.
-pub fn array(f: &[u8], place: usize) -> Count
-    ensures { λ r. ⌜ count-outcome r ≡ arrayOf (now (f .entry)) place ⌝ }
+// The size of the array at a place, and its length in bytes.
+pub fn array(f: &[u8], place: usize) -> ArrayAnswer
+    ensures { λ r. ⌜ array-outcome r ≡ arrayOf (now (f .entry)) place ⌝ }
 {
     match opened(f) {
-        OpenedAnswer::Refused(r) => Count::Refused(r),
+        OpenedAnswer::Refused(r) => ArrayAnswer::Refused(r),
         OpenedAnswer::Got(o) => {
             let h = o.header;
             array_under(f, h, o.handles, place)
@@ -108,28 +123,41 @@ pub fn array_value(f: &[u8], place: usize, k: u32) -> Picked
     }
 }
 
-fn body_under(f: &[u8], h: Header, handles: u32, place: usize) -> Head
-    ensures { λ r. ⌜ head-outcome r ≡ bodyUnder (now (f .entry)) place h handles ⌝ }
+// An annotation body's type and size, and its length in bytes.
+fn noted_body(s: &[u8], w: Walk, place: usize) -> BodyAnswer
+    ensures { λ r. ⌜ body-outcome r ≡ notedBody (now (s .entry)) w place ⌝ }
+{
+    match value_bodies::annotation_head(s, w, place) {
+        Head::Refused(r) => BodyAnswer::Refused(r),
+        Head::Got { type_index, count } => match encoded_value::top_annotation(s, w, place) {
+            Step::Refused(r) => BodyAnswer::Refused(r),
+            Step::Next(end) => BodyAnswer::Got {
+                type_index,
+                count,
+                length: end - place,
+            },
+        },
+    }
+}
+
+fn body_under(f: &[u8], h: Header, handles: u32, place: usize) -> BodyAnswer
+    ensures { λ r. ⌜ body-outcome r ≡ bodyUnder (now (f .entry)) place h handles ⌝ }
 {
     if frame::is_allowed(h.start, h.end, false, place) {
-        return value_bodies::annotation_head(
-            header::section_of(f, h),
-            walk_in(h, handles, place),
-            place,
-        );
+        return noted_body(header::section_of(f, h), walk_in(h, handles, place), place);
     }
-    Head::Refused(Refusal {
+    BodyAnswer::Refused(Refusal {
         number: 7,
         place: 0,
     })
 }
 
-// The type and the size of the annotation body at a place.
-pub fn annotation_body(f: &[u8], place: usize) -> Head
-    ensures { λ r. ⌜ head-outcome r ≡ bodyOf (now (f .entry)) place ⌝ }
+// The type and the size of the annotation body at a place, and its length in bytes.
+pub fn annotation_body(f: &[u8], place: usize) -> BodyAnswer
+    ensures { λ r. ⌜ body-outcome r ≡ bodyOf (now (f .entry)) place ⌝ }
 {
     match opened(f) {
-        OpenedAnswer::Refused(r) => Head::Refused(r),
+        OpenedAnswer::Refused(r) => BodyAnswer::Refused(r),
         OpenedAnswer::Got(o) => {
             let h = o.header;
             body_under(f, h, o.handles, place)

@@ -2,4 +2,3 @@ pub mod Weights
 pub mod Exactly
 pub mod Laws
 pub mod Once
-pub mod Examples

@@ -7,28 +7,28 @@ use Rattle.dex.proofs.values.array.Lts as lts
 use Rattle.dex.proofs.values.array_under.Reads as array-under-reads
 use Rattle.dex.proofs.values.opened.Reads as opened-reads
 
--- src/values.rt:72:11
+-- src/values.rt:87:11
 opened-requires : tie.Need-opened-requires
 opened-requires c κs = search laws
 
--- src/values.rt:73:31
+-- src/values.rt:88:31
 enum-known-r : tie.Need-enum-known-r
 enum-known-r c = search laws
 
--- src/values.rt:74:27
+-- src/values.rt:89:27
 enum-known-o : tie.Need-enum-known-o
 enum-known-o c = search laws
 
--- src/values.rt:76:13
+-- src/values.rt:91:13
 array-under-requires : tie.Need-array-under-requires
 array-under-requires c κs = search laws
 
--- src/values.rt:69:1
+-- src/values.rt:84:1
 returns : tie.Need-returns
 unfolding arrayOf
 returns c = search laws
 
--- src/values.rt:69:1
+-- src/values.rt:84:1
 returns-2 : tie.Need-returns-2
 unfolding arrayOf
 returns-2 c = search laws

@@ -4,33 +4,33 @@ use Rattle.dex.proofs.values.array_under.Statement.{statement}
 use Rattle.dex.proofs.values.array_under.Tie as tie
 use Rattle.dex.proofs.values.array_under.Reads as reads
 use Rattle.dex.proofs.values.array_under.Lts as lts
+use Rattle.dex.proofs.values.array_body.Reads as array-body-reads
 use Rattle.dex.proofs.values.walk_in.Reads as walk-in-reads
 use Rattle.frame.proofs.is_allowed.Reads as is-allowed-reads
 use Rattle.header.proofs.section_of.Reads as section-of-reads
-use Rattle.value_bodies.proofs.array_count.Reads as array-count-reads
 
--- src/values.rt:55:8
+-- src/values.rt:74:8
 is-allowed-requires : tie.Need-is-allowed-requires
 is-allowed-requires c κs = search laws
 
--- src/values.rt:57:13
+-- src/values.rt:75:27
 section-of-requires : tie.Need-section-of-requires
 section-of-requires c κs = search laws
 
--- src/values.rt:58:13
+-- src/values.rt:75:53
 walk-in-requires : tie.Need-walk-in-requires
 walk-in-requires c κs = search laws
 
--- src/values.rt:56:9
-array-count-requires : tie.Need-array-count-requires
-array-count-requires c κs = search laws
+-- src/values.rt:75:9
+array-body-requires : tie.Need-array-body-requires
+array-body-requires c κs = search laws
 
--- src/values.rt:56:9
+-- src/values.rt:75:9
 returns : tie.Need-returns
 unfolding arrayUnder
 returns c = search laws
 
--- src/values.rt:52:1
+-- src/values.rt:71:1
 returns-2 : tie.Need-returns-2
 unfolding arrayUnder
 returns-2 c = search laws
@@ -42,6 +42,6 @@ array-under-spec =
     is-allowed-requires
     section-of-requires
     walk-in-requires
-    array-count-requires
+    array-body-requires
     returns
     returns-2)

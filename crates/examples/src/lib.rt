@@ -1,0 +1,1 @@
+// Document 01's examples marked P, as one statement: proofs/Examples.
