@@ -1,8 +1,0 @@
-pub mod Exactly
-pub mod HeadLaws
-pub mod StringLaws
-pub mod TableLaws
-pub mod ListLaws
-pub mod FlagLaws
-pub mod ValueLaws
-pub mod Once

@@ -1,7 +1,0 @@
-pub mod Head
-pub mod Strings
-pub mod Tables
-pub mod Lists
-pub mod Flags
-pub mod Values
-pub mod Answers

@@ -1,0 +1,34 @@
+-- What an answer of the code says, no other answer says.
+-- Assumes nothing.
+use Prim.Native.Nat.{ℕ}
+use mathlib.Core.Path.{_≡_, refl}
+use Rattle.refusal.specs.Outcome.{Outcome, answer, refused}
+use Rattle.refusal.proofs.Laws.{one-to-one}
+use Rattle.map_list.specs.declared.Entry.{Entry}
+use Rattle.table_readers.specs.declared.CountAnswer as C
+use Rattle.table_readers.specs.declared.EntryAnswer as E
+use Rattle.table_readers.specs.Answers.{count-outcome, entry-outcome}
+
+count-back : Outcome ℕ → C.CountAnswer
+count-back (answer n) = C.the-variants.Got n
+count-back (refused r) = C.the-variants.Refused r
+
+count-told : (x : C.CountAnswer) → count-back (count-outcome x) ≡ x
+unfolding count-back
+count-told (C.the-variants.Got n) = refl
+count-told (C.the-variants.Refused r) = refl
+
+pub count-once : (x y : C.CountAnswer) → count-outcome x ≡ count-outcome y → x ≡ y
+count-once = one-to-one count-outcome count-back count-told
+
+entry-back : Outcome Entry → E.EntryAnswer
+entry-back (answer e) = E.the-variants.Got e
+entry-back (refused r) = E.the-variants.Refused r
+
+entry-told : (x : E.EntryAnswer) → entry-back (entry-outcome x) ≡ x
+unfolding entry-back
+entry-told (E.the-variants.Got e) = refl
+entry-told (E.the-variants.Refused r) = refl
+
+pub entry-once : (x y : E.EntryAnswer) → entry-outcome x ≡ entry-outcome y → x ≡ y
+entry-once = one-to-one entry-outcome entry-back entry-told

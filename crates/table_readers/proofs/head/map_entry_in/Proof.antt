@@ -1,0 +1,51 @@
+use Rattle.table_readers.proofs.HeadLaws.{laws}
+use Rattle.table_readers.specs.Head.{mapEntryIn}
+use Rattle.table_readers.proofs.head.map_entry_in.Statement.{statement}
+use Rattle.table_readers.proofs.head.map_entry_in.Tie as tie
+use Rattle.table_readers.proofs.head.map_entry_in.Reads as reads
+use Rattle.table_readers.proofs.head.map_entry_in.Lts as lts
+use Rattle.map_list.proofs.entry_number.Reads as entry-number-reads
+use Rattle.map_list.proofs.map_of.Reads as map-of-reads
+
+-- src/head.rt:55:11
+map-of-requires : tie.Need-map-of-requires
+map-of-requires c κs = search laws
+
+-- src/head.rt:56:28
+enum-known-r : tie.Need-enum-known-r
+enum-known-r c = search laws
+
+-- src/head.rt:57:24
+enum-known-m : tie.Need-enum-known-m
+enum-known-m c = search laws
+
+-- src/head.rt:60:41
+entry-number-requires : tie.Need-entry-number-requires
+entry-number-requires c κs = search laws
+
+-- src/head.rt:60:17
+returns : tie.Need-returns
+unfolding mapEntryIn
+returns c = search laws
+
+-- src/head.rt:52:1
+returns-2 : tie.Need-returns-2
+unfolding mapEntryIn
+returns-2 c = search laws
+
+-- src/head.rt:52:1
+returns-3 : tie.Need-returns-3
+unfolding mapEntryIn
+returns-3 c = search laws
+
+pub map-entry-in-spec : {M : Type 1} → statement M
+map-entry-in-spec =
+    tie.close
+    (tie.spec
+    map-of-requires
+    enum-known-r
+    enum-known-m
+    entry-number-requires
+    returns
+    returns-2
+    returns-3)

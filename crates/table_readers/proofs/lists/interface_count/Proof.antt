@@ -1,0 +1,45 @@
+use Rattle.table_readers.proofs.ListLaws.{laws}
+use Rattle.table_readers.specs.Lists.{interfaceCount}
+use Rattle.table_readers.proofs.lists.interface_count.Statement.{statement}
+use Rattle.table_readers.proofs.lists.interface_count.Tie as tie
+use Rattle.table_readers.proofs.lists.interface_count.Reads as reads
+use Rattle.table_readers.proofs.lists.interface_count.Lts as lts
+use Rattle.table_readers.proofs.lists.interfaces_in.Reads as interfaces-in-reads
+use Rattle.header.proofs.header_of.Reads as header-of-reads
+
+-- src/lists.rt:98:11
+header-of-requires : tie.Need-header-of-requires
+header-of-requires c κs = search laws
+
+-- src/lists.rt:99:31
+enum-known-r : tie.Need-enum-known-r
+enum-known-r c = search laws
+
+-- src/lists.rt:100:27
+enum-known-h : tie.Need-enum-known-h
+enum-known-h c = search laws
+
+-- src/lists.rt:100:33
+interfaces-in-requires : tie.Need-interfaces-in-requires
+interfaces-in-requires c κs = search laws
+
+-- src/lists.rt:95:1
+returns : tie.Need-returns
+unfolding interfaceCount
+returns c = search laws
+
+-- src/lists.rt:95:1
+returns-2 : tie.Need-returns-2
+unfolding interfaceCount
+returns-2 c = search laws
+
+pub interface-count-spec : {M : Type 1} → statement M
+interface-count-spec =
+    tie.close
+    (tie.spec
+    header-of-requires
+    enum-known-r
+    enum-known-h
+    interfaces-in-requires
+    returns
+    returns-2)

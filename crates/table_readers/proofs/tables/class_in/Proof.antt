@@ -1,0 +1,29 @@
+use Rattle.table_readers.proofs.TableLaws.{framed as laws}
+use Rattle.table_readers.specs.Tables.{classIn}
+use Rattle.table_readers.proofs.tables.class_in.Statement.{statement}
+use Rattle.table_readers.proofs.tables.class_in.Tie as tie
+use Rattle.table_readers.proofs.tables.class_in.Reads as reads
+use Rattle.table_readers.proofs.tables.class_in.Lts as lts
+use Rattle.class_ids.proofs.class_at.Reads as class-at-reads
+use Rattle.header.proofs.frame_of.Reads as frame-of-reads
+
+-- src/tables.rt:126:39
+frame-of-requires : tie.Need-frame-of-requires
+frame-of-requires c κs = search laws
+
+-- src/tables.rt:126:9
+class-at-requires : tie.Need-class-at-requires
+class-at-requires c κs = search laws
+
+-- src/tables.rt:126:9
+returns : tie.Need-returns
+unfolding classIn
+returns c = search laws
+
+-- src/tables.rt:121:1
+returns-2 : tie.Need-returns-2
+unfolding classIn
+returns-2 c = search laws
+
+pub class-in-spec : {M : Type 1} → statement M
+class-in-spec = tie.close (tie.spec frame-of-requires class-at-requires returns returns-2)

@@ -1,0 +1,29 @@
+use Rattle.table_readers.proofs.TableLaws.{framed as laws}
+use Rattle.table_readers.specs.Tables.{protoIn}
+use Rattle.table_readers.proofs.tables.proto_in.Statement.{statement}
+use Rattle.table_readers.proofs.tables.proto_in.Tie as tie
+use Rattle.table_readers.proofs.tables.proto_in.Reads as reads
+use Rattle.table_readers.proofs.tables.proto_in.Lts as lts
+use Rattle.header.proofs.frame_of.Reads as frame-of-reads
+use Rattle.ids.proofs.proto_at.Reads as proto-at-reads
+
+-- src/tables.rt:55:33
+frame-of-requires : tie.Need-frame-of-requires
+frame-of-requires c κs = search laws
+
+-- src/tables.rt:55:9
+proto-at-requires : tie.Need-proto-at-requires
+proto-at-requires c κs = search laws
+
+-- src/tables.rt:55:9
+returns : tie.Need-returns
+unfolding protoIn
+returns c = search laws
+
+-- src/tables.rt:50:1
+returns-2 : tie.Need-returns-2
+unfolding protoIn
+returns-2 c = search laws
+
+pub proto-in-spec : {M : Type 1} → statement M
+proto-in-spec = tie.close (tie.spec frame-of-requires proto-at-requires returns returns-2)

@@ -1,0 +1,29 @@
+use Rattle.table_readers.proofs.TableLaws.{framed as laws}
+use Rattle.table_readers.specs.Tables.{typeIn}
+use Rattle.table_readers.proofs.tables.type_in.Statement.{statement}
+use Rattle.table_readers.proofs.tables.type_in.Tie as tie
+use Rattle.table_readers.proofs.tables.type_in.Reads as reads
+use Rattle.table_readers.proofs.tables.type_in.Lts as lts
+use Rattle.header.proofs.frame_of.Reads as frame-of-reads
+use Rattle.ids.proofs.type_at.Reads as type-at-reads
+
+-- src/tables.rt:32:32
+frame-of-requires : tie.Need-frame-of-requires
+frame-of-requires c κs = search laws
+
+-- src/tables.rt:32:9
+type-at-requires : tie.Need-type-at-requires
+type-at-requires c κs = search laws
+
+-- src/tables.rt:32:9
+returns : tie.Need-returns
+unfolding typeIn
+returns c = search laws
+
+-- src/tables.rt:27:1
+returns-2 : tie.Need-returns-2
+unfolding typeIn
+returns-2 c = search laws
+
+pub type-in-spec : {M : Type 1} → statement M
+type-in-spec = tie.close (tie.spec frame-of-requires type-at-requires returns returns-2)

@@ -1,0 +1,49 @@
+-- What the header and the map say, as readings.
+use Prim.Native.Nat.{ℕ}
+use mathlib.Core.List.{List, []}
+use lib.Dec.{ltb}
+use Rattle.refusal.specs.Outcome.{Outcome, answer, refused, _>>=_, given}
+use Rattle.word.specs.Bytes.{stretch}
+use Rattle.header.specs.declared.Header.{Header}
+use Rattle.header.specs.Header.{headerAt}
+use Rattle.map_list.specs.declared.Entry.{Entry}
+use Rattle.map_list.specs.Map.{keptAt, entryNumber}
+use Rattle.table_readers.specs.declared.Opened.{Opened}
+
+-- the 20 bytes of the signature, none where the header is refused
+unfoldable pub signed-by : List ℕ → Outcome Header → List ℕ
+signed-by f (answer h) = stretch f 12 20
+signed-by f (refused r) = []
+
+unfoldable pub signatureOf : List ℕ → List ℕ
+signatureOf f = signed-by f (headerAt f)
+
+unfoldable pub mapCount : List ℕ → Outcome ℕ
+mapCount f = do
+  h ← headerAt f
+  m ← keptAt f h
+  answer (m .count)
+
+-- "7: the caller asks for a number that is not there"
+unfoldable pub mapEntryIn : List ℕ → ℕ → Header → Outcome Entry
+mapEntryIn f k h = do
+  m ← keptAt f h
+  given (ltb k (m .count)) 7 0 (answer (entryNumber f h k))
+
+unfoldable pub mapEntry : List ℕ → ℕ → Outcome Entry
+mapEntry f k = headerAt f >>= mapEntryIn f k
+
+unfoldable pub handleCount : List ℕ → Outcome ℕ
+handleCount f = do
+  h ← headerAt f
+  m ← keptAt f h
+  answer (m .handles .count)
+
+-- the header, and how many method handles the map gives
+unfoldable pub mappedAt : List ℕ → Header → Outcome Opened
+mappedAt f h = do
+  m ← keptAt f h
+  answer (record { header = h; handles = m .handles .count })
+
+unfoldable pub openedAt : List ℕ → Outcome Opened
+openedAt f = headerAt f >>= mappedAt f

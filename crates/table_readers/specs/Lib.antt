@@ -1,0 +1,6 @@
+pub mod Head
+pub mod Strings
+pub mod Tables
+pub mod Lists
+pub mod Flags
+pub mod Answers

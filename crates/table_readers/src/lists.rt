@@ -1,0 +1,130 @@
+// Lists of types by number: the parameters of a proto and the interfaces of a class. An absent list is empty.
+use class_ids::ClassAnswer;
+use header::Header;
+use header::HeaderAnswer;
+use ids::ProtoAnswer;
+use refusal::Refusal;
+use type_list::CountAnswer;
+use type_list::Judge;
+use type_list::TypeAnswer;
+ghost use mathlib.Core.Path.{_≡_};
+ghost use Rattle.type_list.specs.Answers.{count-outcome, type-outcome};
+ghost use Rattle.table_readers.specs.Lists.{listCount, listType, parametersIn, parameterCount, parameterIn, parameter, interfacesIn, interfaceCount, interfaceIn, interface};
+
+// How many types the list at an offset has, 0 where it is absent.
+fn list_count(f: &[u8], h: Header, at: u32) -> CountAnswer
+    ensures { λ r. ⌜ count-outcome r ≡ listCount (now (f .entry)) h at ⌝ }
+{
+    let order = h.order;
+    let types = h.types;
+    if 0 < at {
+        return type_list::count_at(
+            header::section_of(f, h),
+            Judge {
+                order,
+                types: types.count,
+                at: at as usize,
+            },
+        );
+    }
+    CountAnswer::Got(0)
+}
+
+// Type k of the list at an offset.
+fn list_type(f: &[u8], h: Header, at: u32, k: u32) -> TypeAnswer
+    ensures { λ r. ⌜ type-outcome r ≡ listType (now (f .entry)) h at k ⌝ }
+{
+    let order = h.order;
+    let types = h.types;
+    if 0 < at {
+        return type_list::type_at(
+            header::section_of(f, h),
+            Judge {
+                order,
+                types: types.count,
+                at: at as usize,
+            },
+            k,
+        );
+    }
+    TypeAnswer::Refused(Refusal {
+        number: 7,
+        place: 0,
+    })
+}
+
+// How many parameters proto n has.
+pub fn parameter_count(f: &[u8], n: u32) -> CountAnswer
+    ensures { λ r. ⌜ count-outcome r ≡ parameterCount (now (f .entry)) n ⌝ }
+{
+    match header::header_of(f) {
+        HeaderAnswer::Refused(r) => CountAnswer::Refused(r),
+        HeaderAnswer::Got(h) => parameters_in(f, h, n),
+    }
+}
+
+fn parameters_in(f: &[u8], h: Header, n: u32) -> CountAnswer
+    ensures { λ r. ⌜ count-outcome r ≡ parametersIn (now (f .entry)) n h ⌝ }
+{
+    match super::tables::proto_in(f, h, n) {
+        ProtoAnswer::Refused(r) => CountAnswer::Refused(r),
+        ProtoAnswer::Got(p) => list_count(f, h, p.parameters),
+    }
+}
+
+// The type of parameter k of proto n.
+pub fn parameter(f: &[u8], n: u32, k: u32) -> TypeAnswer
+    ensures { λ r. ⌜ type-outcome r ≡ parameter (now (f .entry)) n k ⌝ }
+{
+    match header::header_of(f) {
+        HeaderAnswer::Refused(r) => TypeAnswer::Refused(r),
+        HeaderAnswer::Got(h) => parameter_in(f, h, n, k),
+    }
+}
+
+fn parameter_in(f: &[u8], h: Header, n: u32, k: u32) -> TypeAnswer
+    ensures { λ r. ⌜ type-outcome r ≡ parameterIn (now (f .entry)) n k h ⌝ }
+{
+    match super::tables::proto_in(f, h, n) {
+        ProtoAnswer::Refused(r) => TypeAnswer::Refused(r),
+        ProtoAnswer::Got(p) => list_type(f, h, p.parameters, k),
+    }
+}
+
+// How many interfaces class n has.
+pub fn interface_count(f: &[u8], n: u32) -> CountAnswer
+    ensures { λ r. ⌜ count-outcome r ≡ interfaceCount (now (f .entry)) n ⌝ }
+{
+    match header::header_of(f) {
+        HeaderAnswer::Refused(r) => CountAnswer::Refused(r),
+        HeaderAnswer::Got(h) => interfaces_in(f, h, n),
+    }
+}
+
+fn interfaces_in(f: &[u8], h: Header, n: u32) -> CountAnswer
+    ensures { λ r. ⌜ count-outcome r ≡ interfacesIn (now (f .entry)) n h ⌝ }
+{
+    match super::tables::class_in(f, h, n) {
+        ClassAnswer::Refused(r) => CountAnswer::Refused(r),
+        ClassAnswer::Got(c) => list_count(f, h, c.interfaces),
+    }
+}
+
+// The type of interface k of class n.
+pub fn interface(f: &[u8], n: u32, k: u32) -> TypeAnswer
+    ensures { λ r. ⌜ type-outcome r ≡ interface (now (f .entry)) n k ⌝ }
+{
+    match header::header_of(f) {
+        HeaderAnswer::Refused(r) => TypeAnswer::Refused(r),
+        HeaderAnswer::Got(h) => interface_in(f, h, n, k),
+    }
+}
+
+fn interface_in(f: &[u8], h: Header, n: u32, k: u32) -> TypeAnswer
+    ensures { λ r. ⌜ type-outcome r ≡ interfaceIn (now (f .entry)) n k h ⌝ }
+{
+    match super::tables::class_in(f, h, n) {
+        ClassAnswer::Refused(r) => TypeAnswer::Refused(r),
+        ClassAnswer::Got(c) => list_type(f, h, c.interfaces, k),
+    }
+}

@@ -1,0 +1,57 @@
+// Strings by number, and the lookup.
+use header::Header;
+use header::HeaderAnswer;
+use refusal::Refusal;
+use string_ids::Lookup;
+use text::TextAnswer;
+ghost use mathlib.Core.Path.{_≡_};
+ghost use Rattle.text.specs.Answers.{text-outcome};
+ghost use Rattle.string_ids.specs.Answers.{lookup-outcome};
+ghost use Rattle.table_readers.specs.Strings.{stringIn, stringExtentOf, bytesOf, stringNumber, findString};
+
+// Where the text of string n lies, and how many units it has.
+pub fn string(f: &[u8], n: u32) -> TextAnswer
+    ensures { λ r. ⌜ text-outcome r ≡ stringExtentOf (now (f .entry)) n ⌝ }
+{
+    match header::header_of(f) {
+        HeaderAnswer::Refused(r) => TextAnswer::Refused(r),
+        HeaderAnswer::Got(h) => string_in(f, h, n),
+    }
+}
+
+fn string_in(f: &[u8], h: Header, n: u32) -> TextAnswer
+    ensures { λ r. ⌜ text-outcome r ≡ stringIn (now (f .entry)) n h ⌝ }
+{
+    let strings = h.strings;
+    if n < strings.count {
+        return string_ids::string_at(f, h, n);
+    }
+    TextAnswer::Refused(Refusal {
+        number: 7,
+        place: 0,
+    })
+}
+
+// The bytes of string n, none where it is refused.
+pub fn string_bytes(f: &[u8], n: u32) -> &[u8]
+    ensures { λ r. ⌜ now r ≡ bytesOf (stringNumber (now (f .entry)) n) ⌝ }
+{
+    match string(f, n) {
+        TextAnswer::Refused(_) => &f[0..0],
+        TextAnswer::Got {
+            start,
+            length,
+            units: _,
+        } => word::bytes_at(f, start, length),
+    }
+}
+
+// The number of the string that has those bytes, or none.
+pub fn find_string(f: &[u8], text: &[u8]) -> Lookup
+    ensures { λ r. ⌜ lookup-outcome r ≡ findString (now (f .entry)) (now (text .entry)) ⌝ }
+{
+    match header::header_of(f) {
+        HeaderAnswer::Refused(r) => Lookup::Refused(r),
+        HeaderAnswer::Got(h) => string_ids::look_up(f, h, text),
+    }
+}

@@ -1,0 +1,164 @@
+// Records by number: header, 7 for the number, the record's own rules.
+use class_ids::ClassAnswer;
+use header::Header;
+use header::HeaderAnswer;
+use ids::HandleAnswer;
+use ids::IndexAnswer;
+use ids::MemberAnswer;
+use ids::ProtoAnswer;
+use map_list::MapAnswer;
+use map_list::MapList;
+use refusal::Refusal;
+ghost use mathlib.Core.Path.{_≡_};
+ghost use Rattle.ids.specs.Answers.{index-outcome, proto-outcome, member-outcome, handle-outcome};
+ghost use Rattle.class_ids.specs.Answers.{class-outcome};
+ghost use Rattle.table_readers.specs.Tables.{typeIn, typeName, protoIn, protoOf, fieldIn, fieldOf, methodIn, methodOf, handleIn, handleUnder, handleOf, classIn, classOf};
+
+// The string of type n.
+pub fn type_name(f: &[u8], n: u32) -> IndexAnswer
+    ensures { λ r. ⌜ index-outcome r ≡ typeName (now (f .entry)) n ⌝ }
+{
+    match header::header_of(f) {
+        HeaderAnswer::Refused(r) => IndexAnswer::Refused(r),
+        HeaderAnswer::Got(h) => type_in(f, h, n),
+    }
+}
+
+fn type_in(f: &[u8], h: Header, n: u32) -> IndexAnswer
+    ensures { λ r. ⌜ index-outcome r ≡ typeIn (now (f .entry)) n h ⌝ }
+{
+    let t = h.types;
+    if n < t.count {
+        return ids::type_at(f, header::frame_of(h, 0), t.offset, n);
+    }
+    IndexAnswer::Refused(Refusal {
+        number: 7,
+        place: 0,
+    })
+}
+
+// Proto n.
+pub fn proto(f: &[u8], n: u32) -> ProtoAnswer
+    ensures { λ r. ⌜ proto-outcome r ≡ protoOf (now (f .entry)) n ⌝ }
+{
+    match header::header_of(f) {
+        HeaderAnswer::Refused(r) => ProtoAnswer::Refused(r),
+        HeaderAnswer::Got(h) => proto_in(f, h, n),
+    }
+}
+
+pub fn proto_in(f: &[u8], h: Header, n: u32) -> ProtoAnswer
+    ensures { λ r. ⌜ proto-outcome r ≡ protoIn (now (f .entry)) n h ⌝ }
+{
+    let t = h.protos;
+    if n < t.count {
+        return ids::proto_at(f, header::frame_of(h, 0), h.end, t.offset, n);
+    }
+    ProtoAnswer::Refused(Refusal {
+        number: 7,
+        place: 0,
+    })
+}
+
+// Field n.
+pub fn field(f: &[u8], n: u32) -> MemberAnswer
+    ensures { λ r. ⌜ member-outcome r ≡ fieldOf (now (f .entry)) n ⌝ }
+{
+    match header::header_of(f) {
+        HeaderAnswer::Refused(r) => MemberAnswer::Refused(r),
+        HeaderAnswer::Got(h) => field_in(f, h, n),
+    }
+}
+
+fn field_in(f: &[u8], h: Header, n: u32) -> MemberAnswer
+    ensures { λ r. ⌜ member-outcome r ≡ fieldIn (now (f .entry)) n h ⌝ }
+{
+    let t = h.fields;
+    let types = h.types;
+    if n < t.count {
+        return ids::member_at(f, header::frame_of(h, 0), types.count, t.offset, n);
+    }
+    MemberAnswer::Refused(Refusal {
+        number: 7,
+        place: 0,
+    })
+}
+
+// Method n.
+pub fn method(f: &[u8], n: u32) -> MemberAnswer
+    ensures { λ r. ⌜ member-outcome r ≡ methodOf (now (f .entry)) n ⌝ }
+{
+    match header::header_of(f) {
+        HeaderAnswer::Refused(r) => MemberAnswer::Refused(r),
+        HeaderAnswer::Got(h) => method_in(f, h, n),
+    }
+}
+
+fn method_in(f: &[u8], h: Header, n: u32) -> MemberAnswer
+    ensures { λ r. ⌜ member-outcome r ≡ methodIn (now (f .entry)) n h ⌝ }
+{
+    let t = h.methods;
+    let protos = h.protos;
+    if n < t.count {
+        return ids::member_at(f, header::frame_of(h, 0), protos.count, t.offset, n);
+    }
+    MemberAnswer::Refused(Refusal {
+        number: 7,
+        place: 0,
+    })
+}
+
+// Class n.
+pub fn class(f: &[u8], n: u32) -> ClassAnswer
+    ensures { λ r. ⌜ class-outcome r ≡ classOf (now (f .entry)) n ⌝ }
+{
+    match header::header_of(f) {
+        HeaderAnswer::Refused(r) => ClassAnswer::Refused(r),
+        HeaderAnswer::Got(h) => class_in(f, h, n),
+    }
+}
+
+pub fn class_in(f: &[u8], h: Header, n: u32) -> ClassAnswer
+    ensures { λ r. ⌜ class-outcome r ≡ classIn (now (f .entry)) n h ⌝ }
+{
+    let t = h.classes;
+    if n < t.count {
+        return class_ids::class_at(f, header::frame_of(h, 0), h.end, t.offset, n);
+    }
+    ClassAnswer::Refused(Refusal {
+        number: 7,
+        place: 0,
+    })
+}
+
+// Method handle n, in the table that the map names.
+pub fn handle(f: &[u8], n: u32) -> HandleAnswer
+    ensures { λ r. ⌜ handle-outcome r ≡ handleOf (now (f .entry)) n ⌝ }
+{
+    match header::header_of(f) {
+        HeaderAnswer::Refused(r) => HandleAnswer::Refused(r),
+        HeaderAnswer::Got(h) => handle_in(f, h, n),
+    }
+}
+
+fn handle_in(f: &[u8], h: Header, n: u32) -> HandleAnswer
+    ensures { λ r. ⌜ handle-outcome r ≡ handleIn (now (f .entry)) n h ⌝ }
+{
+    match map_list::map_of(f, h) {
+        MapAnswer::Refused(r) => HandleAnswer::Refused(r),
+        MapAnswer::Got(m) => handle_under(f, h, m, n),
+    }
+}
+
+fn handle_under(f: &[u8], h: Header, m: MapList, n: u32) -> HandleAnswer
+    ensures { λ r. ⌜ handle-outcome r ≡ handleUnder (now (f .entry)) n h m ⌝ }
+{
+    let t = m.handles;
+    if n < t.count {
+        return ids::handle_at(f, header::frame_of(h, t.count), t.offset, n);
+    }
+    HandleAnswer::Refused(Refusal {
+        number: 7,
+        place: 0,
+    })
+}

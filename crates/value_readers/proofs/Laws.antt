@@ -1,0 +1,67 @@
+-- What the proofs of the readers of values cite.
+-- Assumes nothing.
+use Prim.Native.Nat.{ℕ, _≤_}
+use mathlib.Core.Path.{_≡_, ap, _∙_}
+use mathlib.Core.List.{List}
+use borrow.Author.Needs.{needs}
+use native.Mathlib.Omega.{arith}
+use Rattle.refusal.specs.Outcome.{Outcome, _>>=_}
+use Rattle.refusal.proofs.Laws.{said, tests, calls}
+use Rattle.frame.specs.declared.Frame.{Frame}
+use Rattle.header.specs.declared.Header.{Header}
+use Rattle.header.specs.Header.{section, frame-of}
+use Rattle.table_readers.proofs.HeadLaws.{on-opened}
+use Rattle.class_ids.proofs.Laws.{laws as class-laws}
+use Rattle.encoded_value.specs.declared.Walk.{Walk}
+use Rattle.encoded_value.specs.Kinds.{walkOf}
+use Rattle.encoded_value.specs.Readings.{pastArray, pastAnnotation}
+use Rattle.encoded_value.specs.Answers.{step-outcome}
+use Rattle.encoded_value.specs.declared.Step.{Step}
+use Rattle.encoded_value.specs.declared.Step.the-variants.{Next}
+use Rattle.encoded_value.proofs.Leaves.{on-step}
+use Rattle.encoded_value.proofs.Bounds.{array-ends, annotation-ends}
+use Rattle.decoded_value.specs.Shown.{Shown}
+use Rattle.value_bodies.specs.Bodies.{Noted, ShownElement, arrayCount, arrayValue, annotationElement}
+use Rattle.value_bodies.specs.declared.Count.{Count}
+use Rattle.value_bodies.specs.declared.Head.{Head}
+use Rattle.value_bodies.specs.Answers.{count-outcome, head-outcome}
+use Rattle.value_readers.specs.Values.{walk-in, Sized, arrayBody, NotedSize, notedBody}
+
+pub walk-framed : (h : Header) (handles item : ℕ) {r : Frame} {w : Walk} → r ≡ frame-of h handles → w ≡ walkOf r item → w ≡ walk-in h handles item
+walk-framed h handles item e q = q ∙ ap (λ (x : Frame). walkOf x item) e
+
+-- a body that was read in the file up to the data section's end, s, against the file's counts, w
+module _ (f : List ℕ) (h : Header) (handles item p : ℕ) {s : List ℕ} {w : Walk} (e : s ≡ section f h) (g : w ≡ walk-in h handles item) where
+  pub array-walked : {y : Outcome Sized} → y ≡ arrayBody s w p → y ≡ arrayBody (section f h) (walk-in h handles item) p
+  array-walked q = q ∙ (λ i. arrayBody (e i) (g i) p)
+
+  pub count-walked : {y : Outcome ℕ} → y ≡ arrayCount s w p → y ≡ arrayCount (section f h) (walk-in h handles item) p
+  count-walked q = q ∙ (λ i. arrayCount (e i) (g i) p)
+
+  pub value-walked : (k : ℕ) {y : Outcome Shown} → y ≡ arrayValue s w p k → y ≡ arrayValue (section f h) (walk-in h handles item) p k
+  value-walked k q = q ∙ (λ i. arrayValue (e i) (g i) p k)
+
+  pub body-walked : {y : Outcome NotedSize} → y ≡ notedBody s w p → y ≡ notedBody (section f h) (walk-in h handles item) p
+  body-walked q = q ∙ (λ i. notedBody (e i) (g i) p)
+
+  pub element-walked : (k : ℕ) {y : Outcome ShownElement} → y ≡ annotationElement s w p k → y ≡ annotationElement (section f h) (walk-in h handles item) p k
+  element-walked k q = q ∙ (λ i. annotationElement (e i) (g i) p k)
+
+-- a body ends after its place
+pub array-room : (s : List ℕ) (w : Walk) (p : ℕ) {x : Step} {q : ℕ} → step-outcome x ≡ pastArray s w 64 p → x ≡ Next q → p ≤ q
+array-room s w p e t = let h = array-ends s w 64 p e t in let z = h .after-place in omega arith
+
+pub annotation-room : (s : List ℕ) (w : Walk) (p : ℕ) {x : Step} {q : ℕ} → step-outcome x ≡ pastAnnotation s w 64 p → x ≡ Next q → p ≤ q
+annotation-room s w p e t = let h = annotation-ends s w 64 p e t in let z = h .after-place in omega arith
+
+pub on-count : {B : Type 0} {x c : Count} {o : Outcome ℕ} {y : Outcome B} (k : ℕ → Outcome B) → count-outcome x ≡ o → x ≡ c → y ≡ (count-outcome c >>= k) → y ≡ (o >>= k)
+on-count = said count-outcome
+
+pub on-noted : {B : Type 0} {x c : Head} {o : Outcome Noted} {y : Outcome B} (k : Noted → Outcome B) → head-outcome x ≡ o → x ≡ c → y ≡ (head-outcome c >>= k) → y ≡ (o >>= k)
+on-noted = said head-outcome
+
+pub ruleset body-laws = (array-room, annotation-room, on-count, on-noted, on-step, calls, needs)
+
+pub ruleset walked = (walk-framed, array-walked, count-walked, value-walked, body-walked, element-walked, calls, tests, needs)
+
+pub ruleset laws = (on-opened, class-laws, calls, needs)
