@@ -28,6 +28,11 @@ unfoldable pub collect : {A S : Type 0} → ℕ → (S → Outcome (Found A S)) 
 collect zero step s = answer (record { item = []; next = s })
 collect (suc n) step s = step s >>= λ r. collect n step (r .next) >>= in-front (r .item)
 
+-- each item of a list in turn
+unfoldable pub through : {A B : Type 0} → (A → Outcome B) → List A → Outcome (List B)
+through below [] = answer []
+through below (a ∷ l) = below a >>= λ b. through below l >>= λ bs. answer (b ∷ bs)
+
 -- one more item of a row, or the row's end
 pub data Next (A S : Type 0) : Type 0 where
   more : A → S → Next A S
