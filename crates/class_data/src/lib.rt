@@ -160,7 +160,14 @@ fn rest_at(s: &[u8], j: Judge, item: usize, index: u32, at: usize) -> MemberFoun
 }
 
 // A member, after one whose index is `base`, or as the first of its list.
-pub fn member_found(s: &[u8], j: Judge, item: usize, base: u32, later: bool, at: usize) -> MemberFound
+pub fn member_found(
+    s: &[u8],
+    j: Judge,
+    item: usize,
+    base: u32,
+    later: bool,
+    at: usize,
+) -> MemberFound
     ensures { λ r. ⌜ found-outcome r ≡ memberAt (now (s .entry)) j item base later at ⌝ }
 {
     match leb128::uleb(s, at, item) {
