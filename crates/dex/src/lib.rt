@@ -1,4 +1,5 @@
 // The public readers of a DEX file, and its whole check: each takes a lent file of any bytes and checks for itself.
+pub use refusal::Checked;
 pub use table_readers::CountAnswer;
 pub use table_readers::EntryAnswer;
 pub use table_readers::class;
@@ -28,3 +29,4 @@ pub use value_readers::array;
 pub use value_readers::array_value;
 pub use value_readers::static_value;
 pub use value_readers::static_value_count;
+pub use whole_check::check;
