@@ -1,5 +1,27 @@
 // The public readers of a DEX file, and its whole check: each takes a lent file of any bytes and checks for itself.
 pub use refusal::Checked;
+pub use class_readers::MaybeCode;
+pub use class_readers::MaybeCount;
+pub use class_readers::MaybeData;
+pub use class_readers::MaybeDebug;
+pub use class_readers::MaybeHandler;
+pub use class_readers::MaybeMember;
+pub use class_readers::MaybeName;
+pub use class_readers::MaybePair;
+pub use class_readers::MaybeTry;
+pub use class_readers::class_data;
+pub use class_readers::code;
+pub use class_readers::covering_try;
+pub use class_readers::debug;
+pub use class_readers::debug_parameter;
+pub use class_readers::handler;
+pub use class_readers::handler_count;
+pub use class_readers::handler_pair;
+pub use class_readers::line_program;
+pub use class_readers::member;
+pub use class_readers::member_flags;
+pub use class_readers::try_item;
+pub use class_readers::units;
 pub use table_readers::CountAnswer;
 pub use table_readers::EntryAnswer;
 pub use table_readers::class;
