@@ -1,4 +1,20 @@
 // The public readers of a DEX file, and its whole check: each takes a lent file of any bytes and checks for itself.
+pub use annotation_readers::DirectoryAnswer;
+pub use annotation_readers::annotation;
+pub use annotation_readers::annotation_element;
+pub use annotation_readers::class_annotation_count;
+pub use annotation_readers::class_annotation_place;
+pub use annotation_readers::directory;
+pub use annotation_readers::field_annotation_count;
+pub use annotation_readers::field_annotation_place;
+pub use annotation_readers::field_entry;
+pub use annotation_readers::method_annotation_count;
+pub use annotation_readers::method_annotation_place;
+pub use annotation_readers::method_entry;
+pub use annotation_readers::parameter_annotation_count;
+pub use annotation_readers::parameter_annotation_place;
+pub use annotation_readers::parameter_entry;
+pub use annotation_readers::parameter_set_count;
 pub use table_readers::CountAnswer;
 pub use table_readers::EntryAnswer;
 pub use table_readers::class;
