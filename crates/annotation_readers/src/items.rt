@@ -5,14 +5,23 @@ use refusal::Refusal;
 use table_readers::OpenedAnswer;
 use value_bodies::Element;
 ghost use mathlib.Core.Path.{_≡_};
+ghost use mathlib.Core.Bool.{false};
+ghost use Rattle.frame.specs.Offsets.{allowed};
 ghost use Rattle.value_bodies.specs.Answers.{element-outcome};
 ghost use Rattle.annotations.specs.Answers.{summary-outcome};
 ghost use Rattle.annotation_readers.specs.Items.{annotationUnder, annotationOf, elementUnder, elementOf};
 
+// Is this a place in the data section. Annotation items need no alignment.
+fn is_place(h: Header, place: usize) -> bool
+    ensures { λ r. ⌜ r ≡ allowed (h .start) (h .end) false place ⌝ }
+{
+    frame::is_allowed(h.start, h.end, false, place)
+}
+
 fn annotation_under(f: &[u8], h: Header, handles: u32, place: usize) -> SummaryAnswer
     ensures { λ r. ⌜ summary-outcome r ≡ annotationUnder (now (f .entry)) place h handles ⌝ }
 {
-    if frame::is_allowed(h.start, h.end, false, place) {
+    if is_place(h, place) {
         return annotations::annotation(
             header::section_of(f, h),
             header::frame_of(h, handles),
@@ -41,7 +50,7 @@ pub fn annotation(f: &[u8], place: usize) -> SummaryAnswer
 fn element_under(f: &[u8], h: Header, handles: u32, place: usize, k: u32) -> Element
     ensures { λ r. ⌜ element-outcome r ≡ elementUnder (now (f .entry)) place k h handles ⌝ }
 {
-    if frame::is_allowed(h.start, h.end, false, place) {
+    if is_place(h, place) {
         return annotations::annotation_element(
             header::section_of(f, h),
             header::frame_of(h, handles),

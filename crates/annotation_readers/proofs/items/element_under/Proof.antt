@@ -4,33 +4,33 @@ use Rattle.annotation_readers.proofs.items.element_under.Statement.{sta
 use Rattle.annotation_readers.proofs.items.element_under.Tie as tie
 use Rattle.annotation_readers.proofs.items.element_under.Reads as reads
 use Rattle.annotation_readers.proofs.items.element_under.Lts as lts
+use Rattle.annotation_readers.proofs.items.is_place.Reads as is-place-reads
 use Rattle.annotations.proofs.annotation_element.Reads as annotation-element-reads
-use Rattle.frame.proofs.is_allowed.Reads as is-allowed-reads
 use Rattle.header.proofs.frame_of.Reads as frame-of-reads
 use Rattle.header.proofs.section_of.Reads as section-of-reads
 
--- src/items.rt:44:8
-is-allowed-requires : tie.Need-is-allowed-requires
-is-allowed-requires c κs = search laws
+-- src/items.rt:53:8
+is-place-requires : tie.Need-is-place-requires
+is-place-requires c κs = search laws
 
--- src/items.rt:46:13
+-- src/items.rt:55:13
 section-of-requires : tie.Need-section-of-requires
 section-of-requires c κs = search laws
 
--- src/items.rt:47:13
+-- src/items.rt:56:13
 frame-of-requires : tie.Need-frame-of-requires
 frame-of-requires c κs = search laws
 
--- src/items.rt:45:9
+-- src/items.rt:54:9
 annotation-element-requires : tie.Need-annotation-element-requires
 annotation-element-requires c κs = search laws
 
--- src/items.rt:45:9
+-- src/items.rt:54:9
 returns : tie.Need-returns
 unfolding elementUnder
 returns c = search laws
 
--- src/items.rt:41:1
+-- src/items.rt:50:1
 returns-2 : tie.Need-returns-2
 unfolding elementUnder
 returns-2 c = search laws
@@ -39,7 +39,7 @@ pub element-under-spec : {M : Type 1} → statement M
 element-under-spec =
     tie.close
     (tie.spec
-    is-allowed-requires
+    is-place-requires
     section-of-requires
     frame-of-requires
     annotation-element-requires
