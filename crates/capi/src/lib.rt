@@ -1,6 +1,3 @@
 // The public readers and the check for a C program: `include/dralovika.h` says what each gives.
-mod heads;
-mod rows;
 mod tables;
 mod values;
-mod words;

@@ -1,20 +1,20 @@
-use Rattle.capi.proofs.Laws.{exports as laws}
+use Rattle.capi.proofs.Laws.{laws}
 use Rattle.capi.proofs.tables.dralovika_find_string.Statement.{statement}
 use Rattle.capi.proofs.tables.dralovika_find_string.Tie as tie
 use Rattle.capi.proofs.tables.dralovika_find_string.Reads as reads
 use Rattle.capi.proofs.tables.dralovika_find_string.Lts as lts
-use Rattle.capi.proofs.heads.lookup_row.Reads as lookup-row-reads
+use Rattle.answer_rows.proofs.lookup_row.Reads as lookup-row-reads
 use Rattle.table_readers.proofs.find_string.Reads as find-string-reads
 
--- src/tables.rt:72:30
+-- src/tables.rt:71:36
 find-string-requires : tie.Need-find-string-requires
 find-string-requires c κs = search laws
 
--- src/tables.rt:72:12
+-- src/tables.rt:71:12
 lookup-row-requires : tie.Need-lookup-row-requires
 lookup-row-requires c κs = search laws
 
--- src/tables.rt:68:1
+-- src/tables.rt:67:1
 returns : tie.Need-returns
 returns c = search laws
 

@@ -1,12 +1,12 @@
-use Rattle.capi.proofs.Laws.{exports as laws}
+use Rattle.capi.proofs.Laws.{laws}
 use Rattle.capi.proofs.values.dralovika_annotation_body.Statement.{statement}
 use Rattle.capi.proofs.values.dralovika_annotation_body.Tie as tie
 use Rattle.capi.proofs.values.dralovika_annotation_body.Reads as reads
 use Rattle.capi.proofs.values.dralovika_annotation_body.Lts as lts
-use Rattle.capi.proofs.rows.body_row.Reads as body-row-reads
+use Rattle.answer_rows.proofs.body_row.Reads as body-row-reads
 use Rattle.value_readers.proofs.annotation_body.Reads as annotation-body-reads
 
--- src/values.rt:27:27
+-- src/values.rt:27:34
 annotation-body-requires : tie.Need-annotation-body-requires
 annotation-body-requires c κs = search laws
 

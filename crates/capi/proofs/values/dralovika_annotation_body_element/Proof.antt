@@ -1,16 +1,16 @@
-use Rattle.capi.proofs.Laws.{exports as laws}
+use Rattle.capi.proofs.Laws.{laws}
 use Rattle.capi.proofs.values.dralovika_annotation_body_element.Statement.{statement}
 use Rattle.capi.proofs.values.dralovika_annotation_body_element.Tie as tie
 use Rattle.capi.proofs.values.dralovika_annotation_body_element.Reads as reads
 use Rattle.capi.proofs.values.dralovika_annotation_body_element.Lts as lts
-use Rattle.capi.proofs.rows.element_row.Reads as element-row-reads
+use Rattle.answer_rows.proofs.element_row.Reads as element-row-reads
 use Rattle.value_readers.proofs.annotation_body_element.Reads as annotation-body-element-reads
 
--- src/values.rt:34:30
+-- src/values.rt:39:37
 annotation-body-element-requires : tie.Need-annotation-body-element-requires
 annotation-body-element-requires c κs = search laws
 
--- src/values.rt:34:12
+-- src/values.rt:39:12
 element-row-requires : tie.Need-element-row-requires
 element-row-requires c κs = search laws
 

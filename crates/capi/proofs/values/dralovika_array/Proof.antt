@@ -1,12 +1,12 @@
-use Rattle.capi.proofs.Laws.{exports as laws}
+use Rattle.capi.proofs.Laws.{laws}
 use Rattle.capi.proofs.values.dralovika_array.Statement.{statement}
 use Rattle.capi.proofs.values.dralovika_array.Tie as tie
 use Rattle.capi.proofs.values.dralovika_array.Reads as reads
 use Rattle.capi.proofs.values.dralovika_array.Lts as lts
-use Rattle.capi.proofs.rows.array_row.Reads as array-row-reads
+use Rattle.answer_rows.proofs.array_row.Reads as array-row-reads
 use Rattle.value_readers.proofs.array.Reads as array-reads
 
--- src/values.rt:12:28
+-- src/values.rt:12:35
 array-requires : tie.Need-array-requires
 array-requires c κs = search laws
 

@@ -1,12 +1,12 @@
-use Rattle.capi.proofs.Laws.{exports as laws}
+use Rattle.capi.proofs.Laws.{laws}
 use Rattle.capi.proofs.values.dralovika_array_value.Statement.{statement}
 use Rattle.capi.proofs.values.dralovika_array_value.Tie as tie
 use Rattle.capi.proofs.values.dralovika_array_value.Reads as reads
 use Rattle.capi.proofs.values.dralovika_array_value.Lts as lts
-use Rattle.capi.proofs.rows.picked_row.Reads as picked-row-reads
+use Rattle.answer_rows.proofs.picked_row.Reads as picked-row-reads
 use Rattle.value_readers.proofs.array_value.Reads as array-value-reads
 
--- src/values.rt:19:29
+-- src/values.rt:19:36
 array-value-requires : tie.Need-array-value-requires
 array-value-requires c κs = search laws
 
