@@ -69,7 +69,7 @@ signed-by w z f e q = numbered-by (e ∙ ap bits-of (toZ-ofZ f)) q
 pub ruleset laws = (shown-by, numbered-by, signed-by, needs)
 
 -- ---- rows: the arm that was taken says which answer it is
-arm : {X A : Type 0} (means : X → Outcome A) (words : A → List ℕ) (x c : X) {y : List ℕ} → x ≡ c → y ≡ told words (means c) → y ≡ told words (means x)
+pub arm : {X A : Type 0} (means : X → Outcome A) (words : A → List ℕ) (x c : X) {y : List ℕ} → x ≡ c → y ≡ told words (means c) → y ≡ told words (means x)
 arm means words x c e q = q ∙ ap (λ (u : _). told words (means u)) (sym e)
 
 pub count-arm : (x c : Count.CountAnswer) {y : List ℕ} → x ≡ c → y ≡ told number-words (count-outcome c) → y ≡ told number-words (count-outcome x)

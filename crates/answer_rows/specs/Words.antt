@@ -20,6 +20,15 @@ use Rattle.class_ids.specs.declared.Maybe as M
 use Rattle.decoded_value.specs.Shown.{Shown, Content, integer, natural, floating, row-number, body, nothing, truth}
 use Rattle.value_bodies.specs.Bodies.{ShownElement}
 use Rattle.value_readers.specs.Values.{Sized, NotedSize}
+use Rattle.class_data.specs.declared.Counts.{Counts}
+use Rattle.class_data.specs.declared.Member as D
+use Rattle.code_item.specs.declared.Outline.{Outline}
+use Rattle.code_item.specs.Code.{Linked, Handed}
+use Rattle.handlers.specs.declared.Pair.{Pair}
+use Rattle.debug_info.specs.Debug as B
+use Rattle.annotations.specs.declared.Head as H
+use Rattle.annotations.specs.Directories as N
+use Rattle.annotations.specs.Items.{Summary}
 
 abbrev pub padded : ℕ → List ℕ → List ℕ
 padded zero ws = []
@@ -132,3 +141,47 @@ array-words a = a .count ∷ a .length ∷ []
 
 abbrev pub body-words : NotedSize → List ℕ
 body-words b = b .type-index ∷ b .count ∷ b .length ∷ []
+
+-- nothing but that there is an answer
+abbrev pub no-words : {A : Type 0} → A → List ℕ
+no-words a = []
+
+-- a number or none, inside an answer
+abbrev pub option-word : Option ℕ → ℕ
+option-word (some n) = n
+option-word none = no-number
+
+abbrev pub option-words : Option ℕ → List ℕ
+option-words o = option-word o ∷ []
+
+abbrev pub counts-words : Counts → List ℕ
+counts-words c = c .statics ∷ c .instances ∷ c .directs ∷ c .virtuals ∷ []
+
+abbrev pub found-words : D.Member → List ℕ
+found-words m = m .index ∷ m .flags ∷ m .code ∷ []
+
+unfoldable pub outline-words : Outline → List ℕ
+outline-words o =
+    o .head .registers ∷ o .head .ins ∷ o .head .outs ∷ o .head .tries ∷ o .head .debug ∷ o .head .units
+    ∷ o .handlers ∷ o .from ∷ o .base ∷ o .end ∷ []
+
+abbrev pub try-words : Linked → List ℕ
+try-words t = t .attempt .start ∷ t .attempt .count ∷ t .attempt .handler ∷ t .number ∷ []
+
+abbrev pub handler-words : Handed → List ℕ
+handler-words h = h .offset ∷ h .pairs ∷ option-word (h .all) ∷ []
+
+abbrev pub pair-words : Pair → List ℕ
+pair-words p = p .kind ∷ p .address ∷ []
+
+abbrev pub debug-words : B.Extent → List ℕ
+debug-words d = d .line ∷ d .names ∷ d .start ∷ d .length ∷ []
+
+abbrev pub directory-words : H.Head → List ℕ
+directory-words h = h .set ∷ h .fields ∷ h .methods ∷ h .parameters ∷ []
+
+abbrev pub place-words : N.Entry → List ℕ
+place-words e = e .index ∷ e .offset ∷ []
+
+abbrev pub annotation-words : Summary → List ℕ
+annotation-words a = a .visibility ∷ a .type-index ∷ a .count ∷ []

@@ -1,5 +1,7 @@
 // Answers as rows of twenty words, the form in which a C program takes them: specs/Words says which words each answer is.
 mod heads;
+mod members;
+mod notes;
 mod rows;
 mod words;
 
@@ -7,6 +9,21 @@ pub use heads::class_row;
 pub use heads::header_row;
 pub use heads::lookup_row;
 pub use heads::signature_row;
+pub use members::code_row;
+pub use members::cover_row;
+pub use members::data_row;
+pub use members::debug_row;
+pub use members::found_row;
+pub use members::handler_row;
+pub use members::name_row;
+pub use members::pair_row;
+pub use members::try_row;
+pub use members::written_row;
+pub use notes::annotation_row;
+pub use notes::checked_row;
+pub use notes::directory_row;
+pub use notes::place_row;
+pub use notes::word_row;
 pub use rows::array_row;
 pub use rows::body_row;
 pub use rows::count_row;
