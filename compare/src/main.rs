@@ -1,4 +1,5 @@
 //! compare walk FILE...                              a JSON line for each file, as the oracle prints it, by our readers
+//! compare accepted FILE...                          the names of those that our check accepts
 //! compare run ORACLE FILE...                        both sides, file by file
 //! compare lines ORACLE TABLE                        a file for each line of docs/DIFFERENCES.md, and what each side says of it (made.py)
 //! compare mutants ORACLE SEED COUNT FOLDER FILE...  both sides on COUNT accepted mutants of the files, one byte changed in each
@@ -185,13 +186,21 @@ fn main() {
             }
             true
         }
+        ["accepted", ..] => {
+            for name in &words[1..] {
+                if walk(&std::fs::read(name).expect(name)).is_some() {
+                    println!("{name}");
+                }
+            }
+            true
+        }
         ["run", program, ..] => run(program, &words[2..]),
         ["lines", program, table] => lines(program, table),
         ["mutants", program, seed, wanted, folder, ..] => {
             mutants(program, seed.parse().expect("a seed"), wanted.parse().expect("a number"), Path::new(folder), &words[5..])
         }
         _ => {
-            eprintln!("usage: compare walk FILE... | run ORACLE FILE... | lines ORACLE TABLE | mutants ORACLE SEED COUNT FOLDER FILE...");
+            eprintln!("usage: compare walk FILE... | accepted FILE... | run ORACLE FILE... | lines ORACLE TABLE | mutants ORACLE SEED COUNT FOLDER FILE...");
             false
         }
     };

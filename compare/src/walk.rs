@@ -207,8 +207,8 @@ impl<'a> Walk<'a> {
         let mut left = f.bytes.len() - (h[15] + 32 * h[14]) as usize;
         for (kind, width) in [(7, 4), (8, 8)] {
             if kinds.contains(&kind) {
-                self.line(9);
                 if left < width {
+                    self.line(9);
                     return Err(Stop::Predicted(ended(if kind == 7 { 4 } else { 2 })));
                 }
                 left -= width;
@@ -643,7 +643,7 @@ impl<'a> Walk<'a> {
             let t = got("try", f.dralovika_try_item(c, list, k, t))?;
             self.kind("tries");
             put!(o, "{{\"code_units\":");
-            self.try_units(o, t[0] as usize, t[1] as u32)?;
+            self.try_units(o, &units, t[0] as usize, t[1] as usize)?;
             put!(o, ",\"handler\":");
             self.handler(o, c, list, k, t[3] as u32)?;
             o.push('}');
@@ -658,11 +658,14 @@ impl<'a> Walk<'a> {
 
     /// Line 8: the Rust reads a try's units from the data section, at the byte whose number is the try's first unit. They are always there, since
     /// the units of the code item, two bytes each, lie in the data section.
-    fn try_units(&mut self, o: &mut String, start: usize, n: u32) -> Done {
-        self.line(8);
-        let (data, big) = (&self.file.bytes[self.start..self.end], self.big);
-        json::list(o, n, |o, i| {
-            put!(o, "{}", raw::half(data, start + 2 * i as usize, big));
+    fn try_units(&mut self, o: &mut String, units: &[u16], start: usize, n: usize) -> Done {
+        let data = &self.file.bytes[self.start..self.end];
+        let there: Vec<u16> = (0..n).map(|i| raw::half(data, start + 2 * i, self.big)).collect();
+        if there != units[start..start + n] {
+            self.line(8);
+        }
+        json::list(o, n as u32, |o, i| {
+            put!(o, "{}", there[i as usize]);
             Ok(())
         })
     }
