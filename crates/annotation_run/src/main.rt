@@ -1,6 +1,5 @@
 // Runs cases of annotations. A case is five bytes, which say what is asked (the question, the byte order, the item's place, a list and a
 // number), and then a file up to its data section's end, whose data section starts at 4.
-use annotations::Checked;
 use annotations::EntryAnswer;
 use annotations::HeadAnswer;
 use annotations::SummaryAnswer;
@@ -8,6 +7,7 @@ use annotations::Visibility;
 use annotations::Word;
 use decoded_value::Value;
 use frame::Frame;
+use refusal::Checked;
 use refusal::Refusal;
 use value_bodies::Element;
 use word::Endian;

@@ -51,9 +51,9 @@ module _ (s : List ℕ) (f : Frame) where
   entry-from-exact : {B : Type 0} (below : ℕ → Outcome B) (Below : ℕ → B → Type 0) → ((p : ℕ) → Exact (below p) (Below p)) → (p : ℕ) → Exact (entryFrom s f below p) (EntryBelow s f Below p)
   unfolding entryFrom
   entry-from-exact {B} below Below exact p =
-      exact-iff (bind-exact (Below (word (p + 4))) (λ (b : B) (u : Under B). record { index = word p; below = b } ≡ u) (exact (word (p + 4))) (λ b. answer-exact _))
-      (λ u h. subst (EntryBelow s f Below p) (h .1 .1) (record { index = refl; below = h .1 .0 }))
-      (λ u h. (u .below, (h .below, λ i. record { index = h .index i; below = u .below })))
+      exact-iff (bind-exact (Below (word (p + 4))) (λ (b : B) (u : Under B). record { index = word p; offset = word (p + 4); below = b } ≡ u) (exact (word (p + 4))) (λ b. answer-exact _))
+      (λ u h. subst (EntryBelow s f Below p) (h .1 .1) (record { index = refl; offset = refl; below = h .1 .0 }))
+      (λ u h. (u .below, (h .below, λ i. record { index = h .index i; offset = h .offset i; below = u .below })))
 
   -- the entries of one of the three lists
   abbrev Below-list : {B : Type 0} → (ℕ → B → Type 0) → ℕ → ℕ → List (Under B) → Type 0
@@ -71,10 +71,10 @@ module _ (s : List ℕ) (f : Frame) where
       bind-exact _ _ (below-list-exact (setBelow s f) (SetBelow s f) set-below-exact (item + 16) (h .fields)) (λ x.
       bind-exact _ _ (below-list-exact (setBelow s f) (SetBelow s f) set-below-exact (item + 16 + 8 * h .fields) (h .methods)) (λ y.
       bind-exact _ _ (below-list-exact (referencesBelow s f) (ReferencesBelow s f) references-below-exact (item + 16 + 8 * h .fields + 8 * h .methods) (h .parameters)) (λ z.
-      answer-exact (record { own = o; fields = x; methods = y; parameters = z })))))))
+      answer-exact (record { set = h .set; own = o; fields = x; methods = y; parameters = z })))))))
       (λ a p. subst (DirectoryBelow s f item) (p .1 .1 .1 .1 .1 .1 .1 .1 .1 .1)
-      (record { directory = p .0; rule = p .1 .0; own = p .1 .1 .1 .0; fields = p .1 .1 .1 .1 .1 .0; methods = p .1 .1 .1 .1 .1 .1 .1 .0; parameters = p .1 .1 .1 .1 .1 .1 .1 .1 .1 .0 }))
-      (λ a p. (p .directory, (p .rule, (a .own, (p .own, (a .fields, (p .fields, (a .methods, (p .methods, (a .parameters, (p .parameters, refl)))))))))))
+      (record { directory = p .0; rule = p .1 .0; set = refl; own = p .1 .1 .1 .0; fields = p .1 .1 .1 .1 .1 .0; methods = p .1 .1 .1 .1 .1 .1 .1 .0; parameters = p .1 .1 .1 .1 .1 .1 .1 .1 .1 .0 }))
+      (λ a p. (p .directory, (p .rule, (a .own, (p .own, (a .fields, (p .fields, (a .methods, (p .methods, (a .parameters, (p .parameters, λ i. record { set = p .set i; own = a .own; fields = a .fields; methods = a .methods; parameters = a .parameters })))))))))))
 
   -- one answer
   pub set-below-same : (item : ℕ) (a b : List Item) → SetBelow s f item a → SetBelow s f item b → a ≡ b

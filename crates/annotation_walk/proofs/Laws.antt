@@ -14,24 +14,26 @@ use Rattle.refusal.specs.declared.Refusal.{Refusal}
 use Rattle.refusal.specs.Outcome.{Outcome, answer, refused, _>>=_, present, accepted}
 use Rattle.refusal.specs.Rows.{Found, in-front, collect, numbered, every}
 use Rattle.refusal.proofs.Laws.{calls, tests, absent-there, present-there}
+use Rattle.refusal.specs.Answers.{checked-outcome}
 use Rattle.refusal.proofs.Exact.{never}
+use Rattle.refusal.proofs.Kept.{on-checked, accepted-answer, accepted-refused, part-answer, part-refused, kept-part, kept-on, made-kept, unit-kept, absent-kept, present-kept}
 use Rattle.word.specs.Words.{u32At}
 use Rattle.frame.specs.declared.Frame.{Frame}
 use Rattle.annotations.specs.declared.Head.{Head}
-use Rattle.annotations.specs.declared.Checked.{Checked}
-use Rattle.annotations.specs.declared.Checked.the-variants as C
+use Rattle.refusal.specs.declared.Checked.{Checked}
+use Rattle.refusal.specs.declared.Checked.the-variants as C
 use Rattle.annotations.specs.declared.Visibility.{Visibility}
 use Rattle.annotations.specs.declared.Visibility.the-variants as N
 use Rattle.annotations.specs.declared.HeadAnswer.the-variants as H
 use Rattle.annotations.specs.declared.Word.{Word}
 use Rattle.annotations.specs.declared.Word.the-variants as W
-use Rattle.annotations.specs.Answers.{checked-outcome, visibility-outcome, word-outcome}
+use Rattle.annotations.specs.Answers.{visibility-outcome, word-outcome}
 use Rattle.annotations.specs.Fixed.{entriesFrom}
 use Rattle.annotations.specs.Offsets.{offsetsAt, offsetCount}
 use Rattle.annotations.specs.Directories.{Directory, directoryAt, directoryHead}
 use Rattle.annotations.specs.Items.{Item, itemAt, itemVisibility}
 use Rattle.annotations.proofs.Fixed.{Along, along-first, along-next, along-stop, along-done, along-four, along-eight}
-use Rattle.annotations.proofs.ListLaws.{on-word, on-checked, accepted-answer, accepted-refused, part-answer, part-refused, count-room}
+use Rattle.annotations.proofs.ListLaws.{on-word, count-room}
 use Rattle.annotations.proofs.DirectoryLaws.{on-head, directory-room}
 use Rattle.annotation_walk.specs.Below.{itemFrom, setBelow, setFrom, referencesBelow, entryFrom, headBelow, directoryBelow, itemsPass, ownAccepted, setsPass, oneBelow, oneFrom, belowPass, listsBelow}
 
@@ -81,29 +83,6 @@ pub one-fits : {s : List ℕ} {A : Type 0} {entry : ℕ → Outcome A} {from cou
 one-fits h l z = let y = along-eight h l in omega arith
 
 -- ---- only that there is an answer is kept
--- of a whole, what is kept of what follows it
-kept-part : {A B C : Type 0} (o : Outcome A) (part : A → B) (k : A → Outcome C) (g : B → Outcome Unit)
-    → ((a : A) → (k a >>= accepted) ≡ g (part a)) → ((o >>= k) >>= accepted) ≡ ((o >>= λ (a : A). answer (part a)) >>= g)
-unfolding _>>=_
-kept-part (answer a) part k g h = h a
-kept-part (refused r) part k g h = refl
-
-kept-on : {A C : Type 0} (o : Outcome A) (p : Outcome Unit) (k : A → Outcome C) (g : Outcome Unit) → (o >>= accepted) ≡ p → ((a : A) → (k a >>= accepted) ≡ g) → ((o >>= k) >>= accepted) ≡ (p >>= λ (u : Unit). g)
-unfolding _>>=_
-kept-on (answer a) p k g e h = h a ∙ ap (λ (x : Outcome Unit). x >>= λ (u : Unit). g) e
-kept-on (refused r) p k g e h = ap (λ (x : Outcome Unit). x >>= λ (u : Unit). g) e
-
--- what is made of an answer does not matter
-made-kept : {A C : Type 0} (make : A → C) (o : Outcome A) → ((o >>= λ (a : A). answer (make a)) >>= accepted) ≡ (o >>= accepted)
-unfolding _>>=_
-made-kept make (answer a) = refl
-made-kept make (refused r) = refl
-
-unit-kept : (o : Outcome Unit) → o ≡ (o >>= accepted)
-unfolding _>>=_
-unit-kept (answer u) = refl
-unit-kept (refused r) = refl
-
 -- of entries that are accepted alike
 module _ {A B : Type 0} (x : ℕ → Outcome A) (y : ℕ → Outcome B) (alike : (p : ℕ) → (x p >>= accepted) ≡ (y p >>= accepted)) where
   collect-alike : (n k : ℕ) (at : ℕ → ℕ) → (collect n (numbered (λ (i : ℕ). x (at i))) k >>= accepted) ≡ (collect n (numbered (λ (i : ℕ). y (at i))) k >>= accepted)
@@ -133,19 +112,11 @@ module _ {A B : Type 0} (x : ℕ → Outcome A) (y : ℕ → Outcome B) (alike :
 module _ (s : List ℕ) (f : Frame) where
   pub set-by : (item : ℕ) {y : Outcome Unit} → y ≡ (offsetCount s f item false false >>= λ (n : ℕ). itemsPass s f (item + 4) n) → y ≡ (setBelow s f item >>= accepted)
   unfolding setBelow offsetCount
-  set-by item e = e ∙ sym (kept-part (offsetsAt s f item false false) length _ (λ (n : ℕ). itemsPass s f (item + 4) n) (λ l. refl))
+  set-by item e = e ∙ sym (kept-part (offsetsAt s f item false false) length _ (λ (n : ℕ). itemsPass s f (item + 4) n) (λ l t. refl))
 
   pub references-by : (item : ℕ) {y : Outcome Unit} → y ≡ (offsetCount s f item true true >>= λ (n : ℕ). setsPass s f (item + 4) n) → y ≡ (referencesBelow s f item >>= accepted)
   unfolding referencesBelow offsetCount
-  references-by item e = e ∙ sym (kept-part (offsetsAt s f item true true) length _ (λ (n : ℕ). setsPass s f (item + 4) n) (λ l. refl))
-
-  -- a set that may be absent
-  pub own-absent : (offset : ℕ) → offset ≤ 0 → answer tt ≡ ownAccepted s f offset
-  unfolding _>>=_
-  own-absent offset h = ap (λ (o : Outcome (Option (List Item))). o >>= accepted) (absent-there (setBelow s f offset) h)
-
-  pub own-there : (offset : ℕ) {y : Outcome Unit} → 0 < offset → y ≡ (setBelow s f offset >>= accepted) → y ≡ ownAccepted s f offset
-  own-there offset h e = e ∙ sym (made-kept some (setBelow s f offset)) ∙ ap (λ (o : Outcome (Option (List Item))). o >>= accepted) (present-there (setBelow s f offset) h refl)
+  references-by item e = e ∙ sym (kept-part (offsetsAt s f item true true) length _ (λ (n : ℕ). setsPass s f (item + 4) n) (λ l t. refl))
 
   -- what an entry leads to
   entry-alike : {B : Type 0} (below : ℕ → Outcome B) (parameter : Bool) → ((p : ℕ) → (below p >>= accepted) ≡ oneBelow s f parameter p)
@@ -172,15 +143,15 @@ module _ (s : List ℕ) (f : Frame) where
   pub lists-by : (item : ℕ) (h : Head) {y : Outcome Unit} → y ≡ lists-below item h → y ≡ listsBelow s f item h
   unfolding headBelow lists-below
   lists-by item h e =
-      e ∙ sym (kept-on (present (h .set) (setBelow s f (h .set))) _ _ _ refl (λ o.
-      kept-on (entriesFrom (entryFrom s f (setBelow s f)) 8 (item + 16) (h .fields)) _ _ _ (below-sets (item + 16) (h .fields)) (λ x.
-      kept-on (entriesFrom (entryFrom s f (setBelow s f)) 8 (item + 16 + 8 * h .fields) (h .methods)) _ _ _ (below-sets (item + 16 + 8 * h .fields) (h .methods)) (λ y.
+      e ∙ sym (kept-on (present (h .set) (setBelow s f (h .set))) _ _ _ refl (λ o t.
+      kept-on (entriesFrom (entryFrom s f (setBelow s f)) 8 (item + 16) (h .fields)) _ _ _ (below-sets (item + 16) (h .fields)) (λ x t.
+      kept-on (entriesFrom (entryFrom s f (setBelow s f)) 8 (item + 16 + 8 * h .fields) (h .methods)) _ _ _ (below-sets (item + 16 + 8 * h .fields) (h .methods)) (λ y t.
       made-kept _ (entriesFrom (entryFrom s f (referencesBelow s f)) 8 (item + 16 + 8 * h .fields + 8 * h .methods) (h .parameters))
       ∙ below-references (item + 16 + 8 * h .fields + 8 * h .methods) (h .parameters)))))
 
   pub directory-by : (item : ℕ) {y : Outcome Unit} → y ≡ (directoryHead s f item >>= λ (h : Head). listsBelow s f item h) → y ≡ (directoryBelow s f item >>= accepted)
   unfolding directoryBelow directoryHead
-  directory-by item e = e ∙ sym (kept-part (directoryAt s f item) (λ (d : Directory). d .head) _ (λ (h : Head). listsBelow s f item h) (λ d. refl))
+  directory-by item e = e ∙ sym (kept-part (directoryAt s f item) (λ (d : Directory). d .head) _ (λ (h : Head). listsBelow s f item h) (λ d t. refl))
 
 -- ---- what code adds up fits
 pub four-fits : (s : List ℕ) (f : Frame) (item : ℕ) (absent four : Bool) {x : Word} {n : ℕ} → word-outcome x ≡ offsetCount s f item absent four → x ≡ W.Got n → Fits w64 (length s) → Fits w64 (item + 4)
@@ -208,6 +179,6 @@ pub ruleset set-laws = (along-first, set-next, set-stop, along-done, along-four,
 
 pub ruleset one-laws = (along-first, one-next, one-stop, along-done, along-eight, one-fits, needs)
 
-pub ruleset stage-laws = (set-by, references-by, directory-by, own-absent, own-there, count-room, directory-room, four-fits, on-word, on-head, calls, tests, needs)
+pub ruleset stage-laws = (set-by, references-by, directory-by, absent-kept, present-kept, count-room, directory-room, four-fits, on-word, on-head, calls, tests, needs)
 
 pub ruleset list-laws = (lists-by, fields-room, methods-room, head-fits, fields-fits, methods-fits, on-checked, calls, needs)

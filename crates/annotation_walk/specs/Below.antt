@@ -13,13 +13,15 @@ use Rattle.annotations.specs.Offsets.{setAt, referencesAt}
 use Rattle.annotations.specs.Directories.{directoryAt}
 use Rattle.annotations.specs.Items.{Item, itemAt}
 
--- an index, and what lies below its entry
+-- an entry: its index, its offset, and what lies below it
 pub record Under (B : Type 0) : Type 0 where
   pub index : ℕ
+  pub offset : ℕ
   pub below : B
 
--- what a directory says with all below it: the class's annotations, each field's and method's, and each parameter's of a method
+-- what a directory says with all below it: the class's annotations and where their set is (0 for none), each field's and method's, and each parameter's of a method
 pub record Annotated : Type 0 where
+  pub set : ℕ
   pub own : Option (List Item)
   pub fields : List (Under (List Item))
   pub methods : List (Under (List Item))
@@ -51,7 +53,7 @@ module _ (s : List ℕ) (f : Frame) where
     unfoldable pub entryFrom : ℕ → Outcome (Under B)
     entryFrom p = do
       b ← below (u32At (f .order) s (p + 4))
-      answer (record { index = u32At (f .order) s p; below = b })
+      answer (record { index = u32At (f .order) s p; offset = u32At (f .order) s (p + 4); below = b })
 
   -- a directory: its own rules, then class, fields, methods, parameters
   unfoldable pub headBelow : ℕ → Head → Outcome Annotated
@@ -60,7 +62,7 @@ module _ (s : List ℕ) (f : Frame) where
     fields ← entriesFrom (entryFrom setBelow) 8 (item + 16) (h .fields)
     methods ← entriesFrom (entryFrom setBelow) 8 (item + 16 + 8 * h .fields) (h .methods)
     parameters ← entriesFrom (entryFrom referencesBelow) 8 (item + 16 + 8 * h .fields + 8 * h .methods) (h .parameters)
-    answer (record { own = own; fields = fields; methods = methods; parameters = parameters })
+    answer (record { set = h .set; own = own; fields = fields; methods = methods; parameters = parameters })
 
   unfoldable pub directoryBelow : ℕ → Outcome Annotated
   directoryBelow item = do

@@ -25,14 +25,16 @@ module _ (s : List ℕ) (f : Frame) where
     pub rule : ReferencesRule s f item offsets
     pub sets : Each (λ (k : ℕ) (a : Option (List Item)). Present (SetBelow (u32At (f .order) s (item + 4 + 4 * k))) (u32At (f .order) s (item + 4 + 4 * k)) a) (length offsets) l
 
-  -- the entry at a place: its index, and what its offset leads to
+  -- the entry at a place: its index, its offset, and what the offset leads to
   pub record EntryBelow {B : Type 0} (Below : ℕ → B → Type 0) (p : ℕ) (u : Under B) : Type 0 where
     pub index : u32At (f .order) s p ≡ u .index
+    pub offset : u32At (f .order) s (p + 4) ≡ u .offset
     pub below : Below (u32At (f .order) s (p + 4)) (u .below)
 
   pub record DirectoryBelow (item : ℕ) (a : Annotated) : Type 0 where
     pub directory : Directory
     pub rule : DirectoryRule s f item directory
+    pub set : directory .head .set ≡ a .set
     pub own : Present (SetBelow (directory .head .set)) (directory .head .set) (a .own)
     pub fields : Each (λ (k : ℕ) (u : Under (List Item)). EntryBelow SetBelow (item + 16 + 8 * k) u) (directory .head .fields) (a .fields)
     pub methods : Each (λ (k : ℕ) (u : Under (List Item)). EntryBelow SetBelow (item + 16 + 8 * directory .head .fields + 8 * k) u) (directory .head .methods) (a .methods)

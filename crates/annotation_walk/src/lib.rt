@@ -1,16 +1,16 @@
 // Going over annotation sets, reference lists and directories with all that lies below them: own rules first, then the items pointed at, in
 // stored order. Shared items are gone over each time they are reached.
-use annotations::Checked;
 use annotations::Head;
 use annotations::HeadAnswer;
 use annotations::Visibility;
 use annotations::Word;
 use frame::Frame;
+use refusal::Checked;
 ghost use mathlib.Core.Path.{_≡_};
 ghost use mathlib.Core.Bool.{true, false};
 ghost use Prim.Native.Nat.{_+_, _*_, _≤_};
 ghost use lib.ListN.{length};
-ghost use Rattle.annotations.specs.Answers.{checked-outcome};
+ghost use Rattle.refusal.specs.Answers.{checked-outcome};
 ghost use Rattle.annotation_walk.specs.Below.{setAccepted, referencesAccepted, directoryAccepted};
 ghost use Rattle.annotation_walk.specs.Below.{itemsPass, ownAccepted, setsPass, oneBelow, belowPass, listsBelow};
 

@@ -15,6 +15,8 @@ use Rattle.refusal.specs.Outcome.{Outcome, answer, refused, _>>=_, accepted}
 use Rattle.refusal.specs.Rows.{Found, past}
 use Rattle.refusal.proofs.Laws.{said, calls, tests, bind-answer, bind-refused, passes, fails}
 use Rattle.refusal.proofs.Each.{at-below}
+use Rattle.refusal.specs.Answers.{checked-outcome}
+use Rattle.refusal.proofs.Kept.{on-checked, accepted-answer, accepted-refused, part-answer, part-refused}
 use Rattle.word.specs.Words.{u32At}
 use Rattle.frame.specs.declared.Frame.{Frame}
 use Rattle.encoded_value.proofs.Numbers.{room-there, room-fits}
@@ -25,18 +27,18 @@ use Rattle.annotations.specs.Offsets.{wordAt}
 use Rattle.annotations.specs.Directories.{Entry, Directory, headAt, entryOf, entryAt, listAt, entriesPass, listPast, listsAt, listsPass, directoryAt, directoryHead, listOf, directoryEntry, countOf, beforeOf, limitOf}
 use Rattle.annotations.specs.Rules.{EntryRule, DirectoryRule}
 use Rattle.annotations.specs.declared.Head.{Head}
-use Rattle.annotations.specs.declared.Checked.{Checked}
-use Rattle.annotations.specs.declared.Checked.the-variants as C
+use Rattle.refusal.specs.declared.Checked.{Checked}
+use Rattle.refusal.specs.declared.Checked.the-variants as C
 use Rattle.annotations.specs.declared.Word.{Word}
 use Rattle.annotations.specs.declared.Word.the-variants as W
 use Rattle.annotations.specs.declared.HeadAnswer.{HeadAnswer}
 use Rattle.annotations.specs.declared.HeadAnswer.the-variants as H
 use Rattle.annotations.specs.declared.EntryAnswer.{EntryAnswer}
 use Rattle.annotations.specs.declared.EntryAnswer.the-variants as E
-use Rattle.annotations.specs.Answers.{checked-outcome, word-outcome, entry-outcome, head-outcome}
+use Rattle.annotations.specs.Answers.{word-outcome, entry-outcome, head-outcome}
 use Rattle.annotations.proofs.Fixed.{Along, along-first, along-next, along-stop, along-done, along-eight, fixed-kth}
 use Rattle.annotations.proofs.Exactly.{head-exact, entry-exact, lists-exact, directory-exact}
-use Rattle.annotations.proofs.ListLaws.{on-word, on-checked, word-inside, accepted-answer, accepted-refused, part-answer, part-refused}
+use Rattle.annotations.proofs.ListLaws.{on-word, word-inside}
 
 pub on-head : {B : Type 0} {x c : HeadAnswer} {o : Outcome Head} {y : Outcome B} (k : Head → Outcome B) → head-outcome x ≡ o → x ≡ c → y ≡ (head-outcome c >>= k) → y ≡ (o >>= k)
 on-head = said head-outcome

@@ -216,9 +216,10 @@ module _ (s : List ℕ) (f : Frame) (item : ℕ) where
   pub item-exact : Exact (itemAt s f item) (ItemRule s f item)
   unfolding itemAt
   item-exact =
-      exact-iff (bind-exact _ _ (visibility-exact s item) (λ v. bind-exact _ _ (annotation-exact s (walkOf f item) 64 (item + 1)) (λ a. answer-exact (record { visibility = v; annotation = a .item }))))
+      exact-iff (bind-exact _ _ (visibility-exact s item) (λ v. bind-exact _ _ (annotation-exact s (walkOf f item) 64 (item + 1)) (λ a. answer-exact (record { place = item; visibility = v; annotation = a .item }))))
       (λ a p. subst (ItemRule s f item) (p .1 .1 .1 .1)
       (record {
+        place = refl;
         room = p .1 .0 .0;
         visibility = p .1 .0 .1 .1;
         visible = subst (λ (v : ℕ). v ≤ 2) (p .1 .0 .1 .1) (p .1 .0 .1 .0);
@@ -229,7 +230,7 @@ module _ (s : List ℕ) (f : Frame) (item : ℕ) where
         a .visibility,
         (
           (p .room, (subst (λ (v : ℕ). v ≤ 2) (sym (p .visibility)) (p .visible), p .visibility)),
-          (record { item = a .annotation; next = p .ends }, (p .body, refl)),
+          (record { item = a .annotation; next = p .ends }, (p .body, λ i. record { place = p .place i; visibility = a .visibility; annotation = a .annotation })),
         ),
       ))
 

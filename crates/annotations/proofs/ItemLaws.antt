@@ -49,10 +49,10 @@ module _ (s : List ℕ) (p : ℕ) {v w : Walk} where
 -- what is kept of an item, told by the readers of its body
 module _ (s : List ℕ) (f : Frame) (item : ℕ) where
   abbrev made : ℕ → Found Annotation ℕ → Outcome Item
-  made v a = answer (record { visibility = v; annotation = a .item })
+  made v a = answer (record { place = item; visibility = v; annotation = a .item })
 
   keeps : {B C : Type 0} (o : Outcome ℕ) (p : Outcome (Found Annotation ℕ)) (k : Item → Outcome B) (look : Found Annotation ℕ → Outcome C) (l : ℕ → C → Outcome B)
-      → ((v : ℕ) (a : Found Annotation ℕ) → k (record { visibility = v; annotation = a .item }) ≡ (look a >>= l v))
+      → ((v : ℕ) (a : Found Annotation ℕ) → k (record { place = item; visibility = v; annotation = a .item }) ≡ (look a >>= l v))
       → ((o >>= λ (v : ℕ). p >>= made v) >>= k) ≡ (o >>= λ (v : ℕ). (p >>= look) >>= l v)
   unfolding _>>=_
   keeps (answer v) (answer a) k look l h = h v a

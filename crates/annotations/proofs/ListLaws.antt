@@ -13,6 +13,8 @@ use mir.Val.{Fits}
 use Rattle.refusal.specs.declared.Refusal.{Refusal}
 use Rattle.refusal.specs.Outcome.{Outcome, answer, refused, _>>=_, accepted}
 use Rattle.refusal.proofs.Laws.{said, calls, tests, bind-answer, bind-refused, passes, fails}
+use Rattle.refusal.specs.Answers.{checked-outcome}
+use Rattle.refusal.proofs.Kept.{accepted-answer, accepted-refused, part-answer, part-refused}
 use Rattle.refusal.proofs.Exact.{answers-equal, never}
 use Rattle.encoded_value.proofs.Numbers.{room-there}
 use Rattle.word.specs.Words.{u32At}
@@ -21,42 +23,17 @@ use Rattle.value_bodies.proofs.Picks.{pick-none}
 use Rattle.annotations.specs.Fixed.{entriesFrom, fixedAt}
 use Rattle.annotations.specs.Offsets.{wordAt, offsetOf, offsetAt, offsetsAt, offsetCount, offsetNumber, offsetsPass}
 use Rattle.annotations.specs.Rules.{OffsetRule, OffsetsRule}
-use Rattle.annotations.specs.declared.Checked.{Checked}
-use Rattle.annotations.specs.declared.Checked.the-variants as C
+use Rattle.refusal.specs.declared.Checked.{Checked}
+use Rattle.refusal.specs.declared.Checked.the-variants as C
 use Rattle.annotations.specs.declared.Word.{Word}
 use Rattle.annotations.specs.declared.Word.the-variants as W
-use Rattle.annotations.specs.Answers.{checked-outcome, word-outcome}
+use Rattle.annotations.specs.Answers.{word-outcome}
 use Rattle.annotations.proofs.Fixed.{Along, along-first, along-next, along-stop, along-done, along-four, entries-exact, fixed-kth}
 use Rattle.annotations.proofs.Exactly.{word-exact, offset-exact, offsets-exact}
 
 -- a call's answer, by the arm that was taken
 pub on-word : {B : Type 0} {x c : Word} {o : Outcome ℕ} {y : Outcome B} (k : ℕ → Outcome B) → word-outcome x ≡ o → x ≡ c → y ≡ (word-outcome c >>= k) → y ≡ (o >>= k)
 on-word = said word-outcome
-
-pub on-checked : {B : Type 0} {x c : Checked} {o : Outcome Unit} {y : Outcome B} (k : Unit → Outcome B) → checked-outcome x ≡ o → x ≡ c → y ≡ (checked-outcome c >>= k) → y ≡ (o >>= k)
-on-checked = said checked-outcome
-
--- only that there is an answer is kept: what is then known of the whole
-pub accepted-answer : {A : Type 0} (o : Outcome A) → answer tt ≡ (o >>= accepted) → (a : A) × (o ≡ answer a)
-unfolding _>>=_
-accepted-answer (answer a) e = (a, refl)
-accepted-answer (refused r) e = absurd (never (sym e))
-
-pub accepted-refused : {A : Type 0} (o : Outcome A) {r : Refusal} → refused r ≡ (o >>= accepted) → o ≡ refused r
-unfolding _>>=_
-accepted-refused (answer a) e = absurd (never e)
-accepted-refused (refused q) e = cc
-
--- only a part is kept: what is then known of the whole
-pub part-answer : {A B : Type 0} (part : A → B) (o : Outcome A) {b : B} → (o >>= λ (a : A). answer (part a)) ≡ answer b → (a : A) × ((o ≡ answer a) × (part a ≡ b))
-unfolding _>>=_
-part-answer part (answer a) e = (a, (refl, answers-equal e))
-part-answer part (refused r) e = absurd (never e)
-
-pub part-refused : {A B : Type 0} (part : A → B) (o : Outcome A) {r : Refusal} → (o >>= λ (a : A). answer (part a)) ≡ refused r → o ≡ refused r
-unfolding _>>=_
-part-refused part (answer a) e = absurd (never (sym e))
-part-refused part (refused q) e = cc
 
 -- a word that was read lies inside
 pub word-inside : (s : List ℕ) (f : Frame) (item p : ℕ) {x : Word} {v : ℕ} → word-outcome x ≡ wordAt s f item p → x ≡ W.Got v → p + 4 ≤ length s

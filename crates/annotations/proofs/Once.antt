@@ -7,25 +7,12 @@ use Rattle.refusal.proofs.Laws.{one-to-one}
 use Rattle.annotations.specs.declared.Head.{Head}
 use Rattle.annotations.specs.Directories.{Entry}
 use Rattle.annotations.specs.Items.{Summary}
-use Rattle.annotations.specs.declared.Checked as C
 use Rattle.annotations.specs.declared.Word as W
 use Rattle.annotations.specs.declared.EntryAnswer as E
 use Rattle.annotations.specs.declared.HeadAnswer as H
 use Rattle.annotations.specs.declared.Visibility as N
 use Rattle.annotations.specs.declared.SummaryAnswer as S
-use Rattle.annotations.specs.Answers.{checked-outcome, word-outcome, entry-outcome, head-outcome, visibility-outcome, summary-outcome}
-
-checked-back : Outcome Unit → C.Checked
-checked-back (answer u) = C.the-variants.Accepted
-checked-back (refused r) = C.the-variants.Refused r
-
-checked-told : (x : C.Checked) → checked-back (checked-outcome x) ≡ x
-unfolding checked-back
-checked-told C.the-variants.Accepted = refl
-checked-told (C.the-variants.Refused r) = refl
-
-pub checked-once : (x y : C.Checked) → checked-outcome x ≡ checked-outcome y → x ≡ y
-checked-once = one-to-one checked-outcome checked-back checked-told
+use Rattle.annotations.specs.Answers.{word-outcome, entry-outcome, head-outcome, visibility-outcome, summary-outcome}
 
 word-back : Outcome ℕ → W.Word
 word-back (answer n) = W.the-variants.Got n

@@ -4,16 +4,11 @@ use Rattle.refusal.specs.Outcome.{Outcome, answer, refused}
 use Rattle.annotations.specs.declared.Head.{Head}
 use Rattle.annotations.specs.Directories.{Entry}
 use Rattle.annotations.specs.Items.{Summary}
-use Rattle.annotations.specs.declared.Checked as C
 use Rattle.annotations.specs.declared.Word as W
 use Rattle.annotations.specs.declared.EntryAnswer as E
 use Rattle.annotations.specs.declared.HeadAnswer as H
 use Rattle.annotations.specs.declared.Visibility as N
 use Rattle.annotations.specs.declared.SummaryAnswer as S
-
-abbrev pub checked-outcome : C.Checked → Outcome Unit
-checked-outcome C.the-variants.Accepted = answer tt
-checked-outcome (C.the-variants.Refused r) = refused r
 
 abbrev pub word-outcome : W.Word → Outcome ℕ
 word-outcome (W.the-variants.Got n) = answer n

@@ -11,8 +11,9 @@ use Rattle.encoded_value.specs.Readings.{annotationAt}
 use Rattle.decoded_value.specs.Shown.{shown}
 use Rattle.value_bodies.specs.Bodies.{ShownElement, pick}
 
--- what an annotation item says
+-- what an annotation item says, and where it is
 pub record Item : Type 0 where
+  pub place : ℕ
   pub visibility : ℕ
   pub annotation : Annotation
 
@@ -31,7 +32,7 @@ module _ (s : List ℕ) (f : Frame) (item : ℕ) where
   itemAt = do
     v ← visibilityAt s item
     a ← annotationAt s (walkOf f item) 64 (item + 1)
-    answer (record { visibility = v; annotation = a .item })
+    answer (record { place = item; visibility = v; annotation = a .item })
 
   -- what code keeps
   unfoldable pub itemVisibility : Outcome ℕ

@@ -54,6 +54,7 @@ pub record DirectoryRule (s : List ℕ) (f : Frame) (item : ℕ) (d : Directory)
   pub parameters : Fixed s (EntryRule s f item (f .methods)) 8 (item + 16 + 8 * d .head .fields + 8 * d .head .methods) (d .head .parameters) (d .parameters)
 
 pub record ItemRule (s : List ℕ) (f : Frame) (item : ℕ) (a : Item) : Type 0 where
+  pub place : item ≡ a .place
   pub room : item < length s
   pub visibility : getD s item 0 ≡ a .visibility
   pub visible : a .visibility ≤ 2

@@ -1,5 +1,4 @@
 // The annotation directory. One piece serves its three lists of entries.
-use super::Checked;
 use super::EntryAnswer;
 use super::Head;
 use super::HeadAnswer;
@@ -7,6 +6,7 @@ use super::Word;
 use super::lists::word_at;
 use encoded_value::Step;
 use frame::Frame;
+use refusal::Checked;
 use refusal::Refusal;
 ghost use mathlib.Core.Path.{_≡_};
 ghost use Prim.Native.Nat.{_+_, _*_, _≤_};
@@ -14,7 +14,8 @@ ghost use lib.ListN.{length};
 ghost use Rattle.encoded_value.specs.Answers.{step-outcome};
 ghost use Rattle.annotations.specs.Directories.{countsAt, headAt, entryAt, entriesPass, listPast, listsPass, directoryHead, directoryEntry};
 ghost use Rattle.annotations.specs.Directories.{countOf, beforeOf, limitOf};
-ghost use Rattle.annotations.specs.Answers.{checked-outcome, entry-outcome, head-outcome};
+ghost use Rattle.refusal.specs.Answers.{checked-outcome};
+ghost use Rattle.annotations.specs.Answers.{entry-outcome, head-outcome};
 
 // The three counts behind the class annotations' offset.
 fn counts_at(s: &[u8], f: Frame, item: usize, set: u32) -> HeadAnswer

@@ -16,11 +16,6 @@ pub use lists::reference_offset;
 pub use lists::set_count;
 pub use lists::set_offset;
 
-pub enum Checked {
-    Accepted,
-    Refused(Refusal),
-}
-
 // A count or an offset.
 pub enum Word {
     Got(u32),

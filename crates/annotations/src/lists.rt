@@ -1,14 +1,15 @@
 // Annotation sets and reference lists: a size, then offsets. One piece serves both: is 0 an absent item, must the others be multiples of 4.
-use super::Checked;
 use super::Word;
 use frame::Frame;
+use refusal::Checked;
 use refusal::Refusal;
 ghost use mathlib.Core.Path.{_≡_};
 ghost use mathlib.Core.Bool.{true, false};
 ghost use Prim.Native.Nat.{_+_, _*_, _≤_};
 ghost use lib.ListN.{length};
 ghost use Rattle.annotations.specs.Offsets.{offsetAllowed, wordAt, offsetAt, offsetsPass, offsetCount, offsetNumber};
-ghost use Rattle.annotations.specs.Answers.{checked-outcome, word-outcome};
+ghost use Rattle.refusal.specs.Answers.{checked-outcome};
+ghost use Rattle.annotations.specs.Answers.{word-outcome};
 
 // A word of four bytes, 9 where it is missing.
 pub fn word_at(s: &[u8], f: Frame, item: usize, at: usize) -> Word

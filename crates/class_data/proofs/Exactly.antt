@@ -181,7 +181,6 @@ data-exact s f item =
       counts = h .0 .item;
       after-counts = h .0 .next;
       after-statics = h .1 .1 .1 .0 .middle;
-      after-instances = h .1 .1 .0 .next;
       after-directs = h .1 .1 .1 .1 .1 .0 .middle;
       counted = h .1 .0;
       statics = h .1 .1 .1 .0 .first-list;
@@ -194,7 +193,7 @@ data-exact s f item =
       (
         h .counted,
         (
-          record { item = record { first = d .statics; second = d .instances }; next = h .after-instances },
+          record { item = record { first = d .statics; second = d .instances }; next = d .methods },
           (
             record { middle = h .after-statics; first-list = h .statics; second-list = h .instances },
             (record { item = record { first = d .directs; second = d .virtuals }; next = d .end }, (record { middle = h .after-directs; first-list = h .directs; second-list = h .virtuals }, refl)),

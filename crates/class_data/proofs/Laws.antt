@@ -28,11 +28,13 @@ use Rattle.class_data.specs.declared.Pair.{Pair}
 use Rattle.class_data.specs.declared.CountsAnswer.{CountsAnswer}
 use Rattle.class_data.specs.declared.TwoAnswer.{TwoAnswer}
 use Rattle.class_data.specs.declared.KeptAnswer.{KeptAnswer}
+use Rattle.class_data.specs.declared.Methods.{Methods}
+use Rattle.class_data.specs.declared.MethodsAnswer.{MethodsAnswer}
 use Rattle.class_data.specs.declared.DataAnswer.{DataAnswer}
 use Rattle.class_data.specs.declared.MemberAnswer.{MemberAnswer}
 use Rattle.class_data.specs.Members.{memberAt, Run, stepAt, nobody, begin, membersAt, placed, keptMembers}
-use Rattle.class_data.specs.Data.{Both, countsAt, Two, twoAt, fields-judge, methods-judge, ClassData, classDataAt, counts, extentAt, one-of-four, listOf, memberOf, KeptTwo, keptTwo, Kept, keptAt, countIn, memberIn}
-use Rattle.class_data.specs.Answers.{found-outcome, pair-outcome, counts-outcome, two-outcome, kept-outcome, data-outcome, member-outcome}
+use Rattle.class_data.specs.Data.{Both, countsAt, Two, twoAt, fields-judge, methods-judge, ClassData, classDataAt, counts, extentAt, methodsAt, one-of-four, listOf, memberOf, KeptTwo, keptTwo, Kept, keptAt, countIn, memberIn}
+use Rattle.class_data.specs.Answers.{found-outcome, pair-outcome, counts-outcome, two-outcome, kept-outcome, data-outcome, member-outcome, methods-outcome}
 
 -- ---- the loop of `members_at` at its head
 pub record Members (s : List ℕ) (j : Judge) (item from count k left p : ℕ) (last : Member) (later : Bool) (i : ℕ) (kept : Member) : Type 0 where
@@ -84,6 +86,10 @@ pub on-member : {B : Type 0} {x c : MemberAnswer} {o : Outcome Member} {y : Outc
     → member-outcome x ≡ o → x ≡ c → y ≡ (member-outcome c >>= k) → y ≡ (o >>= k)
 on-member = said member-outcome
 
+pub on-methods : {B : Type 0} {x c : MethodsAnswer} {o : Outcome Methods} {y : Outcome B} (k : Methods → Outcome B)
+    → methods-outcome x ≡ o → x ≡ c → y ≡ (methods-outcome c >>= k) → y ≡ (o >>= k)
+on-methods = said methods-outcome
+
 -- ---- the stages: of each list one member and the count are kept
 module _ (s : List ℕ) (item k : ℕ) {B : Type 0} where
   members-by : (j : Judge) (from n : ℕ) (f : Found (List Member) Run → Outcome B) (g : Found Member ℕ → Outcome B)
@@ -115,6 +121,7 @@ abbrev holding : ℕ → ClassData → Outcome Kept
 holding k d = answer (record {
   counts = counts d;
   members = record { statics = getD (d .statics) k nobody; instances = getD (d .instances) k nobody; directs = getD (d .directs) k nobody; virtuals = getD (d .virtuals) k nobody };
+  methods = d .methods;
   end = d .end;
 })
 
@@ -125,10 +132,10 @@ module _ (s : List ℕ) (f : Frame) (item : ℕ) where
     where
       lists : (c : Found Counts ℕ) → ((twoAt s (fields-judge f) item (c .next) (c .item .statics) (c .item .instances) >>= λ (x : Found Two ℕ).
           twoAt s (methods-judge f) item (x .next) (c .item .directs) (c .item .virtuals) >>= λ (y : Found Two ℕ).
-          answer (record { statics = x .item .first; instances = x .item .second; directs = y .item .first; virtuals = y .item .second; end = y .next })) >>= holding k)
+          answer (record { statics = x .item .first; instances = x .item .second; directs = y .item .first; virtuals = y .item .second; methods = x .next; end = y .next })) >>= holding k)
           ≡ (keptTwo s (fields-judge f) item (c .next) (c .item .statics) (c .item .instances) k >>= λ (x : KeptTwo).
           keptTwo s (methods-judge f) item (x .next) (c .item .directs) (c .item .virtuals) k >>= λ (y : KeptTwo).
-          answer (record { counts = c .item; members = record { statics = x .first; instances = x .second; directs = y .first; virtuals = y .second }; end = y .next }))
+          answer (record { counts = c .item; members = record { statics = x .first; instances = x .second; directs = y .first; virtuals = y .second }; methods = x .next; end = y .next }))
       lists c =
           bind-assoc (twoAt s (fields-judge f) item (c .next) (c .item .statics) (c .item .instances)) _ (holding k)
           ∙ two-by s item k (fields-judge f) (c .next) (c .item .statics) (c .item .instances) _ _
@@ -137,12 +144,19 @@ module _ (s : List ℕ) (f : Frame) (item : ℕ) where
           (λ y u v. bind-answer (holding k) refl ∙ λ i. answer (record {
             counts = record { statics = a i; instances = b i; directs = u i; virtuals = v i };
             members = record { statics = getD (x .item .first) k nobody; instances = getD (x .item .second) k nobody; directs = getD (y .item .first) k nobody; virtuals = getD (y .item .second) k nobody };
+            methods = x .next;
             end = y .next;
           })))
 
   pub extent-by : {y : Outcome (Found Counts ℕ)} → y ≡ (keptAt s f item 0 >>= λ (h : Kept). answer (record { item = h .counts; next = h .end })) → y ≡ extentAt s f item
   unfolding extentAt _>>=_
   extent-by e = e ∙ ap (λ (o : Outcome Kept). o >>= λ (h : Kept). answer (record { item = h .counts; next = h .end })) (sym (kept-whole 0)) ∙ bind-assoc (classDataAt s f item) (holding 0) _
+
+  pub methods-by : {y : Outcome Methods} → y ≡ (keptAt s f item 0 >>= λ (h : Kept). answer (record { directs = h .counts .directs; virtuals = h .counts .virtuals; from = h .methods })) → y ≡ methodsAt s f item
+  unfolding methodsAt _>>=_
+  methods-by e =
+      e ∙ ap (λ (o : Outcome Kept). o >>= λ (h : Kept). answer (record { directs = h .counts .directs; virtuals = h .counts .virtuals; from = h .methods })) (sym (kept-whole 0))
+      ∙ bind-assoc (classDataAt s f item) (holding 0) _
 
   -- a list by its number, in the list, its count and its member
   through : {A B : Type 0} (g : A → B) (list : ℕ) (a b c d e : A) → g (one-of-four list a b c d e) ≡ one-of-four list (g a) (g b) (g c) (g d) (g e)
@@ -178,7 +192,7 @@ pub ruleset part-laws = (on-leb, on-found, on-pair, calls, tests, needs)
 
 pub ruleset loop-laws = (members-first, members-next, members-stop, members-done, needs)
 
-pub ruleset stage-laws = (on-counts, on-two, on-kept, extent-by, member-by, member-there, member-lacks, calls, tests, needs)
+pub ruleset stage-laws = (on-counts, on-two, on-kept, extent-by, methods-by, member-by, member-there, member-lacks, calls, tests, needs)
 
 -- what a caller's functions are
-pub ruleset laws = (on-data, on-member)
+pub ruleset laws = (on-data, on-member, on-found, on-methods)

@@ -5,6 +5,7 @@ use Rattle.refusal.specs.Rows.{Found}
 use Rattle.class_data.specs.Data.{Both, KeptTwo, Kept}
 use Rattle.class_data.specs.declared.Member.{Member}
 use Rattle.class_data.specs.declared.Counts.{Counts}
+use Rattle.class_data.specs.declared.Methods.{Methods}
 use Rattle.class_data.specs.declared.MemberFound as F
 use Rattle.class_data.specs.declared.Pair as P
 use Rattle.class_data.specs.declared.CountsAnswer as C
@@ -12,6 +13,7 @@ use Rattle.class_data.specs.declared.TwoAnswer as T
 use Rattle.class_data.specs.declared.KeptAnswer as K
 use Rattle.class_data.specs.declared.DataAnswer as D
 use Rattle.class_data.specs.declared.MemberAnswer as M
+use Rattle.class_data.specs.declared.MethodsAnswer as N
 
 abbrev pub found-outcome : F.MemberFound → Outcome (Found Member ℕ)
 found-outcome (F.the-variants.Got m n) = answer (record { item = m; next = n })
@@ -30,12 +32,16 @@ two-outcome (T.the-variants.Got a b n) = answer (record { first = a; second = b;
 two-outcome (T.the-variants.Refused r) = refused r
 
 abbrev pub kept-outcome : K.KeptAnswer → Outcome Kept
-kept-outcome (K.the-variants.Got c m e) = answer (record { counts = c; members = m; end = e })
+kept-outcome (K.the-variants.Got c m p e) = answer (record { counts = c; members = m; methods = p; end = e })
 kept-outcome (K.the-variants.Refused r) = refused r
 
 abbrev pub data-outcome : D.DataAnswer → Outcome (Found Counts ℕ)
 data-outcome (D.the-variants.Got c e) = answer (record { item = c; next = e })
 data-outcome (D.the-variants.Refused r) = refused r
+
+abbrev pub methods-outcome : N.MethodsAnswer → Outcome Methods
+methods-outcome (N.the-variants.Got m) = answer m
+methods-outcome (N.the-variants.Refused r) = refused r
 
 abbrev pub member-outcome : M.MemberAnswer → Outcome Member
 member-outcome (M.the-variants.Got m) = answer m

@@ -12,6 +12,7 @@ use Rattle.class_data.specs.declared.Member.{Member}
 use Rattle.class_data.specs.declared.Judge.{Judge}
 use Rattle.class_data.specs.declared.Counts.{Counts}
 use Rattle.class_data.specs.declared.Four.{Four}
+use Rattle.class_data.specs.declared.Methods.{Methods}
 use Rattle.class_data.specs.Members.{membersAt, keptMembers, nobody}
 
 -- two numbers, and two pairs of them
@@ -48,12 +49,13 @@ fields-judge f = record { limit = f .fields; code = false; start = f .start }
 abbrev pub methods-judge : Frame → Judge
 methods-judge f = record { limit = f .methods; code = true; start = f .start }
 
--- what the bytes say, and the place after them
+-- what the bytes say, where the methods begin, and the place after them
 pub record ClassData : Type 0 where
   pub statics : List Member
   pub instances : List Member
   pub directs : List Member
   pub virtuals : List Member
+  pub methods : ℕ
   pub end : ℕ
 
 unfoldable pub classDataAt : List ℕ → Frame → ℕ → Outcome ClassData
@@ -61,7 +63,7 @@ classDataAt s f item = do
   c ← countsAt s item
   x ← twoAt s (fields-judge f) item (c .next) (c .item .statics) (c .item .instances)
   y ← twoAt s (methods-judge f) item (x .next) (c .item .directs) (c .item .virtuals)
-  answer (record { statics = x .item .first; instances = x .item .second; directs = y .item .first; virtuals = y .item .second; end = y .next })
+  answer (record { statics = x .item .first; instances = x .item .second; directs = y .item .first; virtuals = y .item .second; methods = x .next; end = y .next })
 
 -- what is handed out of it: the four counts and the end
 abbrev pub counts : ClassData → Counts
@@ -71,6 +73,12 @@ unfoldable pub extentAt : List ℕ → Frame → ℕ → Outcome (Found Counts �
 extentAt s f item = do
   d ← classDataAt s f item
   answer (record { item = counts d; next = d .end })
+
+-- how many methods either list has, and where they begin
+unfoldable pub methodsAt : List ℕ → Frame → ℕ → Outcome Methods
+methodsAt s f item = do
+  d ← classDataAt s f item
+  answer (record { directs = length (d .directs); virtuals = length (d .virtuals); from = d .methods })
 
 -- one of four by the number of a list, or what stands for none: 0 static, 1 instance, 2 direct, 3 virtual
 abbrev pub one-of-four : {A : Type 0} → ℕ → A → A → A → A → A → A
@@ -100,6 +108,7 @@ keptTwo s j item from m n k = do
 pub record Kept : Type 0 where
   pub counts : Counts
   pub members : Four
+  pub methods : ℕ
   pub end : ℕ
 
 unfoldable pub keptAt : List ℕ → Frame → ℕ → ℕ → Outcome Kept
@@ -107,7 +116,7 @@ keptAt s f item k = do
   c ← countsAt s item
   x ← keptTwo s (fields-judge f) item (c .next) (c .item .statics) (c .item .instances) k
   y ← keptTwo s (methods-judge f) item (x .next) (c .item .directs) (c .item .virtuals) k
-  answer (record { counts = c .item; members = record { statics = x .first; instances = x .second; directs = y .first; virtuals = y .second }; end = y .next })
+  answer (record { counts = c .item; members = record { statics = x .first; instances = x .second; directs = y .first; virtuals = y .second }; methods = x .next; end = y .next })
 
 unfoldable pub countIn : ℕ → Counts → ℕ
 countIn list c = one-of-four list (c .statics) (c .instances) (c .directs) (c .virtuals) 0

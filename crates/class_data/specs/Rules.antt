@@ -52,10 +52,9 @@ pub record DataRule (s : List ℕ) (f : Frame) (item : ℕ) (d : ClassData) : Ty
   pub counts : Counts
   pub after-counts : ℕ
   pub after-statics : ℕ
-  pub after-instances : ℕ
   pub after-directs : ℕ
   pub counted : CountsRule s item counts after-counts
   pub statics : ListRule s (fields-judge f) after-counts (counts .statics) (d .statics) after-statics
-  pub instances : ListRule s (fields-judge f) after-statics (counts .instances) (d .instances) after-instances
-  pub directs : ListRule s (methods-judge f) after-instances (counts .directs) (d .directs) after-directs
+  pub instances : ListRule s (fields-judge f) after-statics (counts .instances) (d .instances) (d .methods)
+  pub directs : ListRule s (methods-judge f) (d .methods) (counts .directs) (d .directs) after-directs
   pub virtuals : ListRule s (methods-judge f) after-directs (counts .virtuals) (d .virtuals) (d .end)

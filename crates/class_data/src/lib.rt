@@ -7,8 +7,8 @@ ghost use mathlib.Core.Path.{_≡_};
 ghost use mathlib.Core.Bool.{cond};
 ghost use Rattle.leb128.specs.Answers.{leb-outcome};
 ghost use Rattle.class_data.specs.Members.{apart, offsetAt, codeAt, restAt, memberAt, keptMembers};
-ghost use Rattle.class_data.specs.Data.{pairAt, countsAt, keptTwo, keptAt, extentAt, memberOf, countIn, memberIn};
-ghost use Rattle.class_data.specs.Answers.{found-outcome, pair-outcome, counts-outcome, two-outcome, kept-outcome, data-outcome, member-outcome};
+ghost use Rattle.class_data.specs.Data.{pairAt, countsAt, keptTwo, keptAt, extentAt, methodsAt, memberOf, countIn, memberIn};
+ghost use Rattle.class_data.specs.Answers.{found-outcome, pair-outcome, counts-outcome, two-outcome, kept-outcome, data-outcome, member-outcome, methods-outcome};
 
 // A field or method: its number, its access flags, and the offset of its code, 0 for a field.
 pub struct Member {
@@ -73,6 +73,7 @@ pub enum KeptAnswer {
     Got {
         counts: Counts,
         members: Four,
+        methods: usize,
         end: usize,
     },
     Refused(Refusal),
@@ -81,6 +82,18 @@ pub enum KeptAnswer {
 // The four counts, and the place after the item.
 pub enum DataAnswer {
     Got { counts: Counts, end: usize },
+    Refused(Refusal),
+}
+
+// How many direct and virtual methods there are, and where they begin.
+pub struct Methods {
+    pub directs: u32,
+    pub virtuals: u32,
+    pub from: usize,
+}
+
+pub enum MethodsAnswer {
+    Got(Methods),
     Refused(Refusal),
 }
 
@@ -147,7 +160,14 @@ fn rest_at(s: &[u8], j: Judge, item: usize, index: u32, at: usize) -> MemberFoun
 }
 
 // A member, after one whose index is `base`, or as the first of its list.
-fn member_found(s: &[u8], j: Judge, item: usize, base: u32, later: bool, at: usize) -> MemberFound
+pub fn member_found(
+    s: &[u8],
+    j: Judge,
+    item: usize,
+    base: u32,
+    later: bool,
+    at: usize,
+) -> MemberFound
     ensures { λ r. ⌜ found-outcome r ≡ memberAt (now (s .entry)) j item base later at ⌝ }
 {
     match leb128::uleb(s, at, item) {
@@ -333,6 +353,7 @@ fn kept_at(s: &[u8], f: Frame, item: usize, k: u32) -> KeptAnswer
                                 directs,
                                 virtuals,
                             },
+                            methods: middle,
                             end,
                         },
                     }
@@ -351,8 +372,28 @@ pub fn class_data_at(s: &[u8], f: Frame, item: usize) -> DataAnswer
         KeptAnswer::Got {
             counts,
             members: _,
+            methods: _,
             end,
         } => DataAnswer::Got { counts, end },
+    }
+}
+
+// How many methods either list has, and where they begin: for going over them once more.
+pub fn methods_at(s: &[u8], f: Frame, item: usize) -> MethodsAnswer
+    ensures { λ r. ⌜ methods-outcome r ≡ methodsAt (now (s .entry)) f item ⌝ }
+{
+    match kept_at(s, f, item, 0) {
+        KeptAnswer::Refused(r) => MethodsAnswer::Refused(r),
+        KeptAnswer::Got {
+            counts,
+            members: _,
+            methods,
+            end: _,
+        } => MethodsAnswer::Got(Methods {
+            directs: counts.directs,
+            virtuals: counts.virtuals,
+            from: methods,
+        }),
     }
 }
 
@@ -407,6 +448,7 @@ pub fn member_at(s: &[u8], f: Frame, item: usize, list: u32, k: u32) -> MemberAn
         KeptAnswer::Got {
             counts,
             members,
+            methods: _,
             end: _,
         } => {
             let count = count_in(list, counts);
