@@ -2,16 +2,14 @@
 """Writes what crates/annotation_run reads (stdin) and must write (stdout): document 01's rules of annotations, told once more in Python.
 
     vectors/annotations.py            (from the repository's root)"""
+from dexfile import Refused
 from records import write
 
-START, STRINGS, TYPES, PROTOS, FIELDS, METHODS, HANDLES = 4, 5, 6, 7, 2, 3, 1
+START, COUNTS = 4, {'strings': 5, 'types': 6, 'protos': 7, 'fields': 2, 'methods': 3, 'handles': 1}
+FIELDS, METHODS = COUNTS['fields'], COUNTS['methods']
 ARGUMENTS = {0x00: 1, 0x02: 2, 0x03: 2, 0x04: 4, 0x06: 8, 0x10: 4, 0x11: 8, **{c: 4 for c in range(0x15, 0x1c)}, 0x1c: 1, 0x1d: 1, 0x1e: 1, 0x1f: 2}
-LIMITS = {0x15: PROTOS, 0x16: HANDLES, 0x17: STRINGS, 0x18: TYPES, 0x19: FIELDS, 0x1a: METHODS, 0x1b: FIELDS}
+INDEXED = {0x15: 'protos', 0x16: 'handles', 0x17: 'strings', 0x18: 'types', 0x19: 'fields', 0x1a: 'methods', 0x1b: 'fields'}
 KINDS = {0x00: 'byte', 0x02: 'short', 0x04: 'int', 0x06: 'long', 0x10: 'float', 0x11: 'double', 0x1e: 'null', 0x1f: 'boolean'}
-
-
-class Refused(Exception):
-    pass
 
 
 def rule(holds, number, place):
@@ -20,8 +18,8 @@ def rule(holds, number, place):
 
 
 class File:
-    def __init__(self, data, order):
-        self.data, self.order = data, order
+    def __init__(self, data, order, start=START, counts=COUNTS):
+        self.data, self.order, self.start, self.counts = data, order, start, counts
 
     def bytes(self, p, n, item):
         rule(p + n <= len(self.data), 9, item)
@@ -56,12 +54,15 @@ class File:
             end = self.body(p + 1, item, depth + 1)[2]
             return f'annotation {p + 1} {end - p - 1}', end
         if code >= 0x1e:
-            return KINDS[code], p + 1
-        x = int.from_bytes(self.bytes(p + 1, size, item), 'little')
-        if code in LIMITS:
-            rule(x < LIMITS[code], 11, item)
-            return f'index {code} {x}', p + 1 + size
-        return f'char {x} 2' if code == 0x03 else KINDS[code], p + 1 + size
+            return self.shown(code, bytes([size - 1])), p + 1
+        raw = self.bytes(p + 1, size, item)
+        if code in INDEXED:
+            rule(int.from_bytes(raw, 'little') < self.counts[INDEXED[code]], 11, item)
+            return f'index {code} {int.from_bytes(raw, "little")}', p + 1 + size
+        return self.shown(code, raw), p + 1 + size
+
+    def shown(self, code, raw):
+        return f'char {int.from_bytes(raw, "little")} 2' if code == 0x03 else KINDS[code]
 
     def array(self, p, item, depth):
         rule(depth <= 64, 13, item)
@@ -72,11 +73,11 @@ class File:
 
     def body(self, p, item, depth):
         rule(depth <= 64, 13, item)
-        kind, p = self.index(p, TYPES, item)
+        kind, p = self.index(p, self.counts['types'], item)
         count, p = self.uleb(p, item)
         elements = []
         for _ in range(count):
-            name, p = self.index(p, STRINGS, item)
+            name, p = self.index(p, self.counts['strings'], item)
             value, p = self.value(p, item, depth)
             elements.append(f'{name} {value}')
         return kind, elements, p
@@ -88,7 +89,7 @@ class File:
         return visibility, *self.body(item + 1, item, 1)[:2]
 
     def offset(self, x, item, four, absent):
-        rule(absent and x == 0 or START <= x < len(self.data) and (x % 4 == 0 or not four), 8, item)
+        rule(absent and x == 0 or self.start <= x < len(self.data) and (x % 4 == 0 or not four), 8, item)
         return x
 
     def offsets(self, item, four, absent):
@@ -106,9 +107,9 @@ class File:
         own = self.offset(self.word(item, item), item, True, True)
         counts = [self.word(item + 4, item), self.word(item + 8, item), self.word(item + 12, item)]
         at, lists = item + 16, []
-        for count, limit in zip(counts, (FIELDS, METHODS, METHODS)):
+        for count, limit in zip(counts, ('fields', 'methods', 'methods')):
             self.bytes(at, 8 * count, item)
-            lists.append([self.entry(at + 8 * k, limit, item) for k in range(count)])
+            lists.append([self.entry(at + 8 * k, self.counts[limit], item) for k in range(count)])
             at += 8 * count
         return own, lists
 
@@ -164,7 +165,7 @@ def line(name, data):
     try:
         return f'{name}: ' + said(File(data[5:], ('little', 'big')[order]), question, item, which, k)
     except Refused as r:
-        return f'{name}: refused {r.args[0]} at {r.args[1]}'
+        return f'{name}: refused {r.number} at {r.place}'
 
 
 # ---- the cases: parts of a file, laid out in order from place 4 on, each at a multiple of 4 where it is a list
@@ -278,8 +279,9 @@ def directories(order):
     all_of('absent sets of a parameter', file(0, 0, 0, 1, 0, 28) + word(2, 0, 0))
 
 
-items()
-for order in (0, 1):
-    lists(order)
-    directories(order)
-write('annotation_run', CASES, line)
+if __name__ == '__main__':
+    items()
+    for order in (0, 1):
+        lists(order)
+        directories(order)
+    write('annotation_run', CASES, line)

@@ -3,150 +3,18 @@
 items, told once more in Python.
 
     vectors/class.py             (from the repository's root)"""
+from dexfile import Refused
+from items import Judge, code, data, debug
 from records import write
 
-ITEM, START, STRINGS, TYPES, FIELDS, METHODS = 4, 4, 3, 3, 8, 8
-
-
-class Refused(Exception):
-    pass
-
-
-def refuse(number, place=ITEM):
-    raise Refused(f' refused {number} at {place}')
-
-
-def leb(s, p, last=lambda b: b <= 0x0f):
-    got = []
-    while True:
-        if len(s) <= p + len(got):
-            refuse(9)
-        got.append(s[p + len(got)])
-        if len(got) == 5 and not last(got[4]):
-            refuse(10)
-        if got[-1] < 0x80:
-            return sum((b & 0x7f) << 7 * i for i, b in enumerate(got)), p + len(got), got
-
-
-def uleb(s, p):
-    return leb(s, p)[:2]
-
-
-def sleb(s, p):
-    v, q, got = leb(s, p, lambda b: b <= 0x07 or 0x78 <= b <= 0x7f)
-    return (v - (1 << 7 * len(got)) if got[-1] & 0x40 else v), q
-
-
-def debug(s):
-    line, p = uleb(s, ITEM)
-    count, p = uleb(s, p)
-    names = []
-    for _ in range(count):
-        v, p = uleb(s, p)
-        if v > STRINGS:
-            refuse(11)
-        names.append('none' if v == 0 else v - 1)
-    zero = p
-    while True:
-        if len(s) <= zero:
-            refuse(9)
-        if s[zero] == 0:
-            return line, names, p, zero - p
-        zero += 1
-
-
-def members(s, p, count, limit, code):
-    got = []
-    for i in range(count):
-        d, p = uleb(s, p)
-        if i and d == 0:
-            refuse(15)
-        index = (got[-1][0] if got else 0) + d
-        if index >= limit:
-            refuse(11)
-        flags, p = uleb(s, p)
-        offset = 0
-        if code:
-            offset, p = uleb(s, p)
-            if offset and (offset < START or offset >= len(s) or offset % 4):
-                refuse(8)
-        got.append((index, flags, offset))
-    return got, p
-
-
-def data(s):
-    p, counts, lists = ITEM, [], []
-    for _ in range(4):
-        n, p = uleb(s, p)
-        counts.append(n)
-    for n, limit, code in zip(counts, (FIELDS, FIELDS, METHODS, METHODS), (False, False, True, True)):
-        got, p = members(s, p, n, limit, code)
-        lists.append(got)
-    return lists, p
-
-
-def code(s, order):
-    def word(p, n):
-        if len(s) < p + n:
-            refuse(9)
-        return int.from_bytes(s[p:p + n], order)
-    registers, ins, outs, tries = (word(ITEM + 2 * i, 2) for i in range(4))
-    offset = word(ITEM + 8, 4)
-    if offset and (offset < START or offset >= len(s)):
-        refuse(8)
-    units = word(ITEM + 12, 4)
-    start = ITEM + 16 + 2 * units + (2 if tries and units % 2 else 0)
-    base = start + 8 * tries
-    if len(s) < base:
-        refuse(9)
-    attempts, floor = [], 0
-    for i in range(tries):
-        p = start + 8 * i
-        a = word(p, 4), word(p + 4, 2), word(p + 6, 2)
-        if a[0] < floor or a[0] + a[1] > units:
-            refuse(17)
-        floor = a[0] + a[1]
-        attempts.append(a)
-    handlers, end = [], base
-
-    def address(p):
-        a, p = uleb(s, p)
-        if a >= units:
-            refuse(17)
-        return a, p
-    if tries:
-        count, p = uleb(s, base)
-        if count == 0:
-            refuse(17)
-        for _ in range(count):
-            place = p - base
-            size, p = sleb(s, p)
-            pairs = []
-            for _ in range(abs(size)):
-                kind, p = uleb(s, p)
-                if kind >= TYPES:
-                    refuse(11)
-                a, p = address(p)
-                pairs.append((kind, a))
-            caught = 'none'
-            if size <= 0:
-                caught, p = address(p)
-            handlers.append((place, pairs, caught))
-        end = p
-    places = [h[0] for h in handlers]
-    links = []
-    for a in attempts:
-        if a[2] not in places:
-            refuse(17)
-        links.append(places.index(a[2]))
-    return (registers, tries, offset, units, len(handlers), start, base, end), attempts, links, handlers
+JUDGE = Judge(item=4, start=4, strings=3, types=3, fields=8, methods=8)
 
 
 def told(read, show):
     try:
         return show(read())
     except Refused as r:
-        return r.args[0]
+        return f' refused {r.number} at {r.place}'
 
 
 def numbers(*values):
@@ -167,16 +35,16 @@ def at(values, k):
 
 def line(name, s):
     if name[0] == 'd':
-        read = lambda: debug(s)
+        read = lambda: debug(JUDGE, s)
         said = told(read, lambda d: numbers(d[0], len(d[1]), d[2], d[3]))
         said += ''.join(pick(read, lambda d: (d[1][k],) if k < len(d[1]) else None) for k in range(3))
     elif name[0] == 'c':
-        read = lambda: data(s)
+        read = lambda: data(JUDGE, s)
         said = told(read, lambda d: numbers(*map(len, d[0]), d[1]))
         for n, k in ((0, 0), (0, 1), (0, 2), (1, 0), (2, 0), (2, 1), (3, 0), (4, 0)):
             said += pick(read, lambda d: at(d[0][n], k) if n < 4 else None)
     else:
-        read = lambda: code(s, 'little' if name[0] == 'x' else 'big')
+        read = lambda: code(JUDGE, s, 'little' if name[0] == 'x' else 'big')
         said = told(read, lambda c: numbers(*c[0]))
         for t in (0, 1):
             said += pick(read, lambda c: (*c[1][t], c[2][t]) if t < len(c[1]) else None)

@@ -203,4 +203,5 @@ def line(name, f):
     return f'{name}: ' + ', '.join(out)
 
 
-write('table_run', [(f'{name}, {o}', f) for o in ('little', 'big') for name, f in cases(o)], line)
+if __name__ == '__main__':
+    write('table_run', [(f'{name}, {o}', f) for o in ('little', 'big') for name, f in cases(o)], line)

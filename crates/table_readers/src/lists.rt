@@ -12,7 +12,7 @@ ghost use Rattle.type_list.specs.Answers.{count-outcome, type-outcome};
 ghost use Rattle.table_readers.specs.Lists.{listCount, listType, parametersIn, parameterCount, parameterIn, parameter, interfacesIn, interfaceCount, interfaceIn, interface};
 
 // How many types the list at an offset has, 0 where it is absent.
-fn list_count(f: &[u8], h: Header, at: u32) -> CountAnswer
+pub fn list_count(f: &[u8], h: Header, at: u32) -> CountAnswer
     ensures { λ r. ⌜ count-outcome r ≡ listCount (now (f .entry)) h at ⌝ }
 {
     let order = h.order;

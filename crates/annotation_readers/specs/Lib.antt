@@ -1,0 +1,4 @@
+pub mod Directories
+pub mod Sets
+pub mod Items
+pub mod Answers

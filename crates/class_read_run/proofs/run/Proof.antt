@@ -1,0 +1,92 @@
+use borrow.Author.Needs.{needs}
+use Prim.Native.Nat.{_-_}
+use lib.ListN.{length}
+use Rattle.class_read_run.proofs.run.Statement.{statement}
+use Rattle.class_read_run.proofs.run.Tie as tie
+use Rattle.class_read_run.proofs.run.Reads as reads
+use Rattle.class_read_run.proofs.run.Lts as lts
+use Rattle.class_read_run.proofs.one.Reads as one-reads
+use Rattle.word.proofs.byte_at.Reads as byte-at-reads
+use Rattle.word.proofs.bytes_at.Reads as bytes-at-reads
+use Rattle.word.proofs.u16_at.Reads as u16-at-reads
+
+abbrev Inv-loop : tie.InvT-loop
+Inv-loop cases at₀ at = Unit
+
+abbrev μ-loop : tie.MeasureT-loop
+μ-loop cases at₀ at = length cases - at
+
+loop-holds : tie.Need-loop-holds Inv-loop μ-loop
+loop-holds c = search needs
+
+byte-at-requires : tie.Need-byte-at-requires Inv-loop μ-loop
+byte-at-requires c κs = search needs
+
+cast-name : tie.Need-cast-name Inv-loop μ-loop
+cast-name c = search needs
+
+add-u16-at : tie.Need-add-u16-at Inv-loop μ-loop
+add-u16-at c = search needs
+
+add-u16-at-2 : tie.Need-add-u16-at-2 Inv-loop μ-loop
+add-u16-at-2 c = search needs
+
+u16-at-requires : tie.Need-u16-at-requires Inv-loop μ-loop
+u16-at-requires c κs = search needs
+
+cast-size : tie.Need-cast-size Inv-loop μ-loop
+cast-size c = search needs
+
+add-from : tie.Need-add-from Inv-loop μ-loop
+add-from c = search needs
+
+add-from-2 : tie.Need-add-from-2 Inv-loop μ-loop
+add-from-2 c = search needs
+
+add-bytes-at : tie.Need-add-bytes-at Inv-loop μ-loop
+add-bytes-at c = search needs
+
+bytes-at-requires : tie.Need-bytes-at-requires Inv-loop μ-loop
+bytes-at-requires c κs = search needs
+
+bytes-at-requires-2 : tie.Need-bytes-at-requires-2 Inv-loop μ-loop
+bytes-at-requires-2 c κs = search needs
+
+one-requires : tie.Need-one-requires Inv-loop μ-loop
+one-requires c κs = search needs
+
+add-at : tie.Need-add-at Inv-loop μ-loop
+add-at c = search needs
+
+loop-less : tie.Need-loop-less Inv-loop μ-loop
+loop-less c = search needs
+
+loop-again : tie.Need-loop-again Inv-loop μ-loop
+loop-again c = search needs
+
+returns : tie.Need-returns Inv-loop μ-loop
+returns c = search needs
+
+pub run-spec : {M : Type 1} → statement M
+run-spec =
+    tie.close
+    (tie.spec
+    Inv-loop
+    μ-loop
+    loop-holds
+    byte-at-requires
+    cast-name
+    add-u16-at
+    add-u16-at-2
+    u16-at-requires
+    cast-size
+    add-from
+    add-from-2
+    add-bytes-at
+    bytes-at-requires
+    bytes-at-requires-2
+    one-requires
+    add-at
+    loop-less
+    loop-again
+    returns)

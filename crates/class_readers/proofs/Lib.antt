@@ -1,0 +1,5 @@
+pub mod SpotLaws
+pub mod MemberLaws
+pub mod CodeLaws
+pub mod DebugLaws
+pub mod Once

@@ -1,0 +1,38 @@
+use Rattle.class_readers.proofs.SpotLaws.{under-laws as laws}
+use Rattle.class_readers.specs.Members.{memberUnder}
+use Rattle.class_readers.proofs.members.member_under.Statement.{statement}
+use Rattle.class_readers.proofs.members.member_under.Tie as tie
+use Rattle.class_readers.proofs.members.member_under.Reads as reads
+use Rattle.class_readers.proofs.members.member_under.Lts as lts
+use Rattle.header.proofs.section_of.Reads as section-of-reads
+use Rattle.header.proofs.frame_of.Reads as frame-of-reads
+use Rattle.class_data.proofs.member_at.Reads as member-at-reads
+
+section-of-requires : tie.Need-section-of-requires
+section-of-requires c κs = search laws
+
+frame-of-requires : tie.Need-frame-of-requires
+frame-of-requires c κs = search laws
+
+cast-member-at : tie.Need-cast-member-at
+cast-member-at c = search laws
+
+member-at-requires : tie.Need-member-at-requires
+member-at-requires c κs = search laws
+
+enum-known-r : tie.Need-enum-known-r
+enum-known-r c = search laws
+
+enum-known-m : tie.Need-enum-known-m
+enum-known-m c = search laws
+
+returns : tie.Need-returns
+unfolding memberUnder
+returns c = search laws
+
+returns-2 : tie.Need-returns-2
+unfolding memberUnder
+returns-2 c = search laws
+
+pub member-under-spec : {M : Type 1} → statement M
+member-under-spec = tie.close (tie.spec section-of-requires frame-of-requires cast-member-at member-at-requires enum-known-r enum-known-m returns returns-2)

@@ -1,0 +1,5 @@
+pub mod Spots
+pub mod Members
+pub mod Code
+pub mod Debug
+pub mod Answers

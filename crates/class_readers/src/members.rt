@@ -1,0 +1,80 @@
+// Class data, and its members by list and number.
+use super::MaybeCount;
+use super::MaybeData;
+use super::MaybeMember;
+use super::Spot;
+use super::SpotAnswer;
+use access_flags::FlagsAnswer;
+use class_data::DataAnswer;
+use class_data::MemberAnswer;
+ghost use mathlib.Core.Path.{_≡_};
+ghost use lib.ListN.{length};
+ghost use Rattle.class_readers.specs.Members.{countsUnder, classData, memberUnder, memberNumber, memberFlags, memberContent};
+ghost use Rattle.class_readers.specs.Answers.{maybe-data, maybe-member, maybe-count};
+
+fn counts_under(f: &[u8], s: Spot) -> MaybeData
+    ensures { λ r. ⌜ maybe-data r ≡ countsUnder (now (f .entry)) s ⌝ }
+{
+    let h = s.header;
+    match class_data::class_data_at(
+        header::section_of(f, h),
+        header::frame_of(h, 0),
+        s.place as usize,
+    ) {
+        DataAnswer::Refused(r) => MaybeData::Refused(r),
+        DataAnswer::Got { counts, end: _ } => MaybeData::Got(counts),
+    }
+}
+
+// How many members the four lists of class c have.
+pub fn class_data(f: &[u8], c: u32) -> MaybeData
+    ensures { λ r. ⌜ maybe-data r ≡ classData (now (f .entry)) c ⌝ }
+{
+    match super::spots::data_spot(f, c) {
+        SpotAnswer::Refused(r) => MaybeData::Refused(r),
+        SpotAnswer::Absent => MaybeData::Absent,
+        SpotAnswer::Got(s) => counts_under(f, s),
+    }
+}
+
+fn member_under(f: &[u8], s: Spot, list: u32, k: u32) -> MaybeMember
+    ensures { λ r. ⌜ maybe-member r ≡ memberUnder (now (f .entry)) list k s ⌝ }
+{
+    let h = s.header;
+    match class_data::member_at(
+        header::section_of(f, h),
+        header::frame_of(h, 0),
+        s.place as usize,
+        list,
+        k,
+    ) {
+        MemberAnswer::Refused(r) => MaybeMember::Refused(r),
+        MemberAnswer::Got(m) => MaybeMember::Got(m),
+    }
+}
+
+// Member k of a list of class c: its index, its access flags, and the offset of its code, 0 for a field.
+pub fn member(f: &[u8], c: u32, list: u32, k: u32) -> MaybeMember
+    ensures { λ r. ⌜ maybe-member r ≡ memberNumber (now (f .entry)) c list k ⌝ }
+{
+    match super::spots::data_spot(f, c) {
+        SpotAnswer::Refused(r) => MaybeMember::Refused(r),
+        SpotAnswer::Absent => MaybeMember::Absent,
+        SpotAnswer::Got(s) => member_under(f, s, list, k),
+    }
+}
+
+// Its access flags as bit numbers in a lent output: how many; 19, writing nothing, where the output is shorter.
+pub fn member_flags(f: &[u8], c: u32, list: u32, k: u32, out: &mut [u8]) -> MaybeCount
+    ensures answer { λ r. ⌜ maybe-count r ≡ memberFlags (now (f .entry)) c list k (length (now (out .entry))) ⌝ }
+    ensures content { λ r. ⌜ now (out .exit) ≡ memberContent (now (f .entry)) c list k (now (out .entry)) ⌝ }
+{
+    match member(f, c, list, k) {
+        MaybeMember::Refused(r) => MaybeCount::Refused(r),
+        MaybeMember::Absent => MaybeCount::Absent,
+        MaybeMember::Got(m) => match access_flags::flags_into(m.flags, false, out) {
+            FlagsAnswer::Refused(r) => MaybeCount::Refused(r),
+            FlagsAnswer::Got(n) => MaybeCount::Got(n),
+        },
+    }
+}

@@ -1,0 +1,109 @@
+// Where class data, code and debug information lie: what the readers begin with.
+use super::Spot;
+use super::SpotAnswer;
+use class_data::MemberAnswer;
+use class_ids::ClassAnswer;
+use code_item::CodeAnswer;
+use header::Header;
+use header::HeaderAnswer;
+use refusal::Refusal;
+ghost use mathlib.Core.Path.{_≡_};
+ghost use Rattle.class_readers.specs.Spots.{spotAt, dataIn, dataSpot, methodUnder, methodSpot, debugUnder, debugSpot};
+ghost use Rattle.class_readers.specs.Answers.{spot-outcome};
+
+// An offset of 0 means absent.
+fn spot_of(h: Header, at: u32) -> SpotAnswer
+    ensures { λ r. ⌜ spot-outcome r ≡ spotAt h at ⌝ }
+{
+    if 0 < at {
+        return SpotAnswer::Got(Spot {
+            header: h,
+            place: at,
+        });
+    }
+    SpotAnswer::Absent
+}
+
+fn data_in(f: &[u8], h: Header, c: u32) -> SpotAnswer
+    ensures { λ r. ⌜ spot-outcome r ≡ dataIn (now (f .entry)) c h ⌝ }
+{
+    match table_readers::class_in(f, h, c) {
+        ClassAnswer::Refused(r) => SpotAnswer::Refused(r),
+        ClassAnswer::Got(found) => spot_of(h, found.data),
+    }
+}
+
+// Where the class data of class c lies.
+pub fn data_spot(f: &[u8], c: u32) -> SpotAnswer
+    ensures { λ r. ⌜ spot-outcome r ≡ dataSpot (now (f .entry)) c ⌝ }
+{
+    match header::header_of(f) {
+        HeaderAnswer::Refused(r) => SpotAnswer::Refused(r),
+        HeaderAnswer::Got(h) => data_in(f, h, c),
+    }
+}
+
+// Where the code of a member of class data lies: 7 for the member, and for a list of fields.
+fn method_under(f: &[u8], s: Spot, list: u32, k: u32) -> SpotAnswer
+    ensures { λ r. ⌜ spot-outcome r ≡ methodUnder (now (f .entry)) list k s ⌝ }
+{
+    let h = s.header;
+    match class_data::member_at(
+        header::section_of(f, h),
+        header::frame_of(h, 0),
+        s.place as usize,
+        list,
+        k,
+    ) {
+        MemberAnswer::Refused(r) => SpotAnswer::Refused(r),
+        MemberAnswer::Got(m) => {
+            if 2 <= list {
+                return spot_of(h, m.code);
+            }
+            SpotAnswer::Refused(Refusal {
+                number: 7,
+                place: 0,
+            })
+        }
+    }
+}
+
+// Where the code of method k of a list of class c lies.
+pub fn method_spot(f: &[u8], c: u32, list: u32, k: u32) -> SpotAnswer
+    ensures { λ r. ⌜ spot-outcome r ≡ methodSpot (now (f .entry)) c list k ⌝ }
+{
+    match data_spot(f, c) {
+        SpotAnswer::Refused(r) => SpotAnswer::Refused(r),
+        SpotAnswer::Absent => SpotAnswer::Absent,
+        SpotAnswer::Got(s) => method_under(f, s, list, k),
+    }
+}
+
+// Where the debug information of a code item lies, of which the whole is read first.
+fn debug_under(f: &[u8], s: Spot) -> SpotAnswer
+    ensures { λ r. ⌜ spot-outcome r ≡ debugUnder (now (f .entry)) s ⌝ }
+{
+    let h = s.header;
+    match code_item::code_at(
+        header::section_of(f, h),
+        header::frame_of(h, 0),
+        s.place as usize,
+    ) {
+        CodeAnswer::Refused(r) => SpotAnswer::Refused(r),
+        CodeAnswer::Got(o) => {
+            let head = o.head;
+            spot_of(h, head.debug)
+        }
+    }
+}
+
+// Where the debug information of method k of a list of class c lies.
+pub fn debug_spot(f: &[u8], c: u32, list: u32, k: u32) -> SpotAnswer
+    ensures { λ r. ⌜ spot-outcome r ≡ debugSpot (now (f .entry)) c list k ⌝ }
+{
+    match method_spot(f, c, list, k) {
+        SpotAnswer::Refused(r) => SpotAnswer::Refused(r),
+        SpotAnswer::Absent => SpotAnswer::Absent,
+        SpotAnswer::Got(s) => debug_under(f, s),
+    }
+}

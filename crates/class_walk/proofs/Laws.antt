@@ -1,0 +1,226 @@
+-- What the proofs of the going over cite: the stages of a body, of class data and of a class, and the loop over methods.
+-- Assumes nothing.
+use Prim.Native.Nat.{ℕ, zero, suc, _-_, _<_, _≤_}
+use mathlib.Core.Path.{_≡_, refl, ap, sym, subst, _∙_}
+use mathlib.Core.Bool.{Bool, true, false, cond}
+use mathlib.Core.Logic.{_⊎_, inl, inr}
+use mathlib.Core.Option.{Option}
+use mathlib.Core.List.{List}
+use lib.ListN.{length}
+use lib.Dec.{ltb}
+use borrow.Author.Needs.{needs}
+use borrow.Author.Tests.{lt-ltb, le-ltb}
+use native.Mathlib.Omega.{arith}
+use Rattle.refusal.specs.declared.Refusal.{Refusal}
+use Rattle.refusal.specs.declared.Checked.{Checked}
+use Rattle.refusal.specs.declared.Checked.the-variants as C
+use Rattle.refusal.specs.Outcome.{Outcome, answer, refused, _>>=_, present, accepted}
+use Rattle.refusal.specs.Rows.{Found, past, collect, through, with-below}
+use Rattle.refusal.specs.Answers.{checked-outcome}
+use Rattle.refusal.proofs.Laws.{said, bind-answer, bind-refused, tests, calls, picks, leaves}
+use Rattle.refusal.proofs.Exact.{answers-equal}
+use Rattle.refusal.proofs.Rows.{bind-assoc}
+use Rattle.refusal.proofs.Kept.{kept, accepted-answer, accepted-refused, kept-part, kept-on, made-kept, absent-kept, present-kept}
+use Rattle.refusal.proofs.Choose.{row-length}
+use Rattle.refusal.proofs.Through.{gone-over}
+use Rattle.refusal.proofs.Loops.{Gather, gather-first, gather-next, gather-stop, gather-done}
+use Rattle.frame.specs.declared.Frame.{Frame}
+use Rattle.header.specs.declared.Header.{Header}
+use Rattle.header.specs.Header.{section, frame-of}
+use Rattle.type_list.specs.TypeList.{listAt, countAt}
+use Rattle.type_list.proofs.Laws.{laws as list-laws}
+use Rattle.class_ids.specs.declared.Class.{Class}
+use Rattle.class_ids.specs.Classes.{classAt}
+use Rattle.class_ids.proofs.Laws.{laws as class-laws}
+use Rattle.class_data.specs.declared.Member.{Member}
+use Rattle.class_data.specs.declared.Methods.{Methods}
+use Rattle.class_data.specs.declared.MemberFound.{MemberFound}
+use Rattle.class_data.specs.declared.MemberFound.the-variants as F
+use Rattle.class_data.specs.Answers.{found-outcome}
+use Rattle.class_data.specs.Members.{Run, memberAt, stepAt, begin, membersAt, nobody}
+use Rattle.class_data.specs.Data.{ClassData, classDataAt, methodsAt, methods-judge}
+use Rattle.class_data.specs.Rules.{ListRule}
+use Rattle.class_data.proofs.Exactly.{list-exact, data-exact}
+use Rattle.class_data.proofs.Laws.{on-methods}
+use Rattle.code_item.specs.declared.Outline.{Outline}
+use Rattle.code_item.specs.declared.CodeAnswer.{CodeAnswer}
+use Rattle.code_item.specs.Answers.{code-outcome}
+use Rattle.code_item.specs.Code.{Code, codeAt, outline, outlineAt}
+use Rattle.debug_info.specs.Debug.{Debug, debugAt, Extent, extentAt}
+use Rattle.debug_info.proofs.Laws.{on-debug}
+use Rattle.encoded_value.specs.declared.Walk.{Walk}
+use Rattle.encoded_value.specs.Kinds.{walkOf}
+use Rattle.encoded_value.specs.Tree.{Tree}
+use Rattle.encoded_value.specs.Readings.{arrayAt, pastArray}
+use Rattle.encoded_value.proofs.Leaves.{on-step}
+use Rattle.annotation_walk.specs.Below.{Annotated, directoryBelow}
+use Rattle.table_readers.specs.Lists.{list-judge, listCount}
+use Rattle.class_walk.specs.declared.Passed.{Passed}
+use Rattle.class_walk.specs.Answers.{passed-outcome}
+use Rattle.class_walk.specs.Methods.{Body, DataBelow, bodyAt, methodBelow, dataBelow, debugAccepted, methodsPass, bothPass}
+use Rattle.class_walk.specs.Classes.{ClassBelow, typesAt, valuesAt, annotationsAt, dataAt, staticsAt, below, classBelow, belowPass}
+
+-- ---- a body
+pub debug-by : (s : List ℕ) (strings item : ℕ) {y : Outcome Unit} → y ≡ (extentAt s strings item >>= accepted) → y ≡ (debugAt s strings item >>= accepted)
+unfolding extentAt
+debug-by s strings item e = e ∙ made-kept _ (debugAt s strings item)
+
+pub on-code : {B : Type 0} {x c : CodeAnswer} {o : Outcome Outline} {y : Outcome B} (k : Outline → Outcome B) → code-outcome x ≡ o → x ≡ c → y ≡ (code-outcome c >>= k) → y ≡ (o >>= k)
+on-code = said code-outcome
+
+module _ (s : List ℕ) (f : Frame) where
+  pub body-by : (item : ℕ) {y : Outcome Unit} → y ≡ (outlineAt s f item >>= λ (o : Outline). debugAccepted s (f .strings) (o .head .debug)) → y ≡ (bodyAt s f item >>= accepted)
+  unfolding bodyAt outlineAt
+  body-by item e = e ∙ sym (kept-part (codeAt s f item) outline _ (λ (o : Outline). debugAccepted s (f .strings) (o .head .debug)) (λ c t. made-kept _ (present (c .head .debug) (debugAt s (f .strings) (c .head .debug)))))
+
+-- ---- the loop over methods: p is the next place, after the last method
+abbrev going : List ℕ → Frame → ℕ → Run → Outcome (Found (Option Body) Run)
+going s f item = with-below (stepAt s (methods-judge f) item) (methodBelow s f)
+
+abbrev run-of : ℕ → Member → Bool → Run
+run-of p last later = record { place = p; last = last; later = later }
+
+pub record Going (s : List ℕ) (f : Frame) (item from count left p : ℕ) (last : Member) (later : Bool) : Type 0 where
+  gather : Gather (going s f item) count (begin from) left (record { place = p; last = last; later = later })
+
+pub going-first : (s : List ℕ) (f : Frame) (item from count : ℕ) → Going s f item from count count from nobody false
+going-first s f item from count = record { gather = gather-first (going s f item) count (begin from) }
+
+module _ {s : List ℕ} {f : Frame} {item from count left p : ℕ} {last : Member} {later : Bool} (h : Going s f item from count left p last later)
+    {x : MemberFound} (l : 0 < left) (e : found-outcome x ≡ memberAt s (methods-judge f) item (last .index) later p) where
+  step-refused : {r : Refusal} → x ≡ F.Refused r → going s f item (run-of p last later) ≡ refused r
+  unfolding with-below stepAt
+  step-refused t = bind-refused _ (bind-refused _ (sym e ∙ ap found-outcome t))
+
+  pub going-stop : {r : Refusal} → x ≡ F.Refused r → refused r ≡ methodsPass s f item from count
+  unfolding methodsPass
+  going-stop t = sym (bind-refused _ (sym (gather-stop (h .gather) l (sym (bind-refused past (step-refused t))))))
+
+  module _ {m : Member} {n : ℕ} (t : x ≡ F.Got m n) where
+    step-found : {o : Outcome (Option Body)} → methodBelow s f m ≡ o → going s f item (run-of p last later) ≡ (o >>= λ (b : Option Body). answer (record { item = b; next = run-of n m true }))
+    unfolding with-below stepAt
+    step-found {o} q =
+        bind-answer (λ (r : Found Member Run). methodBelow s f (r .item) >>= λ (b : Option Body). answer (record { item = b; next = r .next })) (bind-answer _ (sym e ∙ ap found-outcome t))
+        ∙ ap (λ (z : Outcome (Option Body)). z >>= λ (b : Option Body). answer (record { item = b; next = run-of n m true })) q
+
+    module _ {y : Checked} (g : checked-outcome y ≡ (present (m .code) (bodyAt s f (m .code)) >>= accepted)) where
+      pub going-next : y ≡ C.Accepted → Going s f item from count (left - 1) n m true
+      unfolding methodBelow
+      going-next u =
+          let found = accepted-answer (present (m .code) (bodyAt s f (m .code))) (sym (ap checked-outcome u) ∙ g) in
+          record { gather = gather-next (h .gather) l (sym (bind-answer past (step-found (found .1) ∙ bind-answer _ refl))) }
+
+      pub going-fail : {r : Refusal} → y ≡ C.Refused r → refused r ≡ methodsPass s f item from count
+      unfolding methodBelow methodsPass
+      going-fail u =
+          let broken = accepted-refused (present (m .code) (bodyAt s f (m .code))) (sym (ap checked-outcome u) ∙ g) in
+          sym (bind-refused _ (sym (gather-stop (h .gather) l (sym (bind-refused past (step-found broken ∙ bind-refused _ refl))))))
+
+pub going-done : {s : List ℕ} {f : Frame} {item from count left p : ℕ} {last : Member} {later : Bool} → Going s f item from count left p last later → left ≤ 0 → answer p ≡ methodsPass s f item from count
+unfolding methodsPass
+going-done h l = let r = gather-done (h .gather) l in sym (bind-answer _ (sym (r .1 .0)) ∙ ap (λ (t : Run). answer (t .place)) (r .1 .1))
+
+-- ---- class data: what is gone over a second time is what was read
+module _ (s : List ℕ) (f : Frame) (item : ℕ) where
+  abbrev to : ℕ → List (Option Body) → Outcome ℕ
+  to q bs = answer q
+
+  passed-again : {p n q : ℕ} {l : List Member} → ListRule s (methods-judge f) p n l q → methodsPass s f item p (length l) ≡ (through (methodBelow s f) l >>= to q)
+  unfolding methodsPass membersAt
+  passed-again {p} {n} {q} {l} h =
+      let size = row-length (h .row) in
+      let read = list-exact s (methods-judge f) item p n .complete (record { item = l; next = h .run }) (h .row) in
+      ap (λ (k : ℕ). collect k (going s f item) (begin p) >>= λ (r : Found (List (Option Body)) Run). answer (r .next .place)) size
+      ∙ ap (λ (o : Outcome (Found (List (Option Body)) Run)). o >>= λ (r : Found (List (Option Body)) Run). answer (r .next .place)) (gone-over (stepAt s (methods-judge f) item) (methodBelow s f) n (begin p) (record { item = l; next = h .run }) read)
+      ∙ bind-assoc (through (methodBelow s f) l) _ _
+      ∙ (λ i. through (methodBelow s f) l >>= λ (bs : List (Option Body)). (bind-answer {o = answer (record { item = bs; next = h .run })} (λ (r : Found (List (Option Body)) Run). answer (r .next .place)) refl ∙ ap answer (h .ends)) i)
+
+  abbrev methods-of : ClassData → Methods
+  methods-of d = record { directs = length (d .directs); virtuals = length (d .virtuals); from = d .methods }
+
+  abbrev made : ClassData → List (Option Body) → List (Option Body) → Outcome DataBelow
+  made d x y = answer (record { members = d; directs = x; virtuals = y })
+
+  both-of : (d : ClassData) → classDataAt s f item ≡ answer d
+      → ((through (methodBelow s f) (d .directs) >>= λ (x : List (Option Body)). through (methodBelow s f) (d .virtuals) >>= made d x) >>= accepted)
+      ≡ bothPass s f item (methods-of d)
+  unfolding bothPass _>>=_
+  both-of d e =
+      let rule = data-exact s f item .sound d e in
+      let one = passed-again (rule .directs) in
+      let two = passed-again (rule .virtuals) in
+      sym (ap (λ (o : Outcome ℕ). o >>= λ (p : ℕ). methodsPass s f item p (length (d .virtuals)) >>= λ (q : ℕ). answer tt) one
+      ∙ bind-assoc (through (methodBelow s f) (d .directs)) _ _
+      ∙ (λ i. through (methodBelow s f) (d .directs) >>= λ (x : List (Option Body)). (ap (λ (o : Outcome ℕ). o >>= λ (q : ℕ). answer tt) two ∙ ends _ x) i)
+      ∙ sym (bind-assoc (through (methodBelow s f) (d .directs)) _ accepted))
+    where
+      ends : (q : ℕ) (x : List (Option Body))
+          → ((through (methodBelow s f) (d .virtuals) >>= to q) >>= λ (q : ℕ). answer tt)
+          ≡ ((through (methodBelow s f) (d .virtuals) >>= made d x) >>= accepted)
+      ends q x = made-kept _ (through (methodBelow s f) (d .virtuals)) ∙ sym (made-kept _ (through (methodBelow s f) (d .virtuals)))
+
+  pub data-by : {y : Outcome Unit} → y ≡ (methodsAt s f item >>= λ (m : Methods). bothPass s f item m) → y ≡ (dataBelow s f item >>= accepted)
+  unfolding dataBelow methodsAt
+  data-by e = e ∙ sym (kept-part (classDataAt s f item) methods-of _ (λ (m : Methods). bothPass s f item m) both-of)
+
+pub on-passed : {B : Type 0} {x c : Passed} {o : Outcome ℕ} {y : Outcome B} (k : ℕ → Outcome B) → passed-outcome x ≡ o → x ≡ c → y ≡ (passed-outcome c >>= k) → y ≡ (o >>= k)
+on-passed = said passed-outcome
+
+-- ---- lists of types, directories and static values that may be absent
+pub types-by : (f : List ℕ) (h : Header) (at : ℕ) {y : Outcome Unit} → y ≡ (listCount f h at >>= accepted) → y ≡ (typesAt f h at >>= accepted)
+unfolding typesAt listCount countAt
+types-by f h at e = e ∙ go (or-zero at)
+  where
+    or-zero : (n : ℕ) → (0 < n) ⊎ (n ≤ 0)
+    or-zero zero = inr (omega arith)
+    or-zero (suc n) = inl (omega arith)
+
+    go : (0 < at) ⊎ (at ≤ 0) → (cond (ltb 0 at) (countAt (section f h) (list-judge h at)) (answer 0) >>= accepted) ≡ (present at (listAt (section f h) (list-judge h at)) >>= accepted)
+    go (inl p) =
+        ap (λ (o : Outcome ℕ). o >>= accepted) (sym (picks (answer 0) (lt-ltb 0 at p) refl))
+        ∙ made-kept _ (listAt (section f h) (list-judge h at))
+        ∙ present-kept (listAt (section f h) (list-judge h at)) p refl
+    go (inr p) = ap (λ (o : Outcome ℕ). o >>= accepted) (sym (leaves (countAt (section f h) (list-judge h at)) (le-ltb 0 at p) refl)) ∙ bind-answer accepted refl ∙ absent-kept (listAt (section f h) (list-judge h at)) p
+
+module _ (f : List ℕ) (h : Header) (handles at : ℕ) {s : List ℕ} (e : s ≡ section f h) where
+  pub directory-framed : {r : Frame} {y : Outcome Unit} → r ≡ frame-of h handles → y ≡ (directoryBelow s r at >>= accepted) → y ≡ (directoryBelow (section f h) (frame-of h handles) at >>= accepted)
+  directory-framed g q = q ∙ λ i. directoryBelow (e i) (g i) at >>= accepted
+
+  pub data-framed : {r : Frame} {y : Outcome Unit} → r ≡ frame-of h 0 → y ≡ (dataBelow s r at >>= accepted) → y ≡ (dataBelow (section f h) (frame-of h 0) at >>= accepted)
+  data-framed g q = q ∙ λ i. dataBelow (e i) (g i) at >>= accepted
+
+  pub values-framed : {r : Frame} {w : Walk} {y : Outcome Unit} → r ≡ frame-of h handles → w ≡ walkOf r at → y ≡ (pastArray s w 64 at >>= accepted) → y ≡ (valuesAt (section f h) (walkOf (frame-of h handles) at) at >>= accepted)
+  unfolding valuesAt
+  values-framed g w q =
+      q ∙ (λ i. pastArray (e i) ((w ∙ ap (λ (x : Frame). walkOf x at) g) i) 64 at >>= accepted)
+      ∙ made-kept _ (arrayAt (section f h) (walkOf (frame-of h handles) at) 64 at)
+      ∙ sym (made-kept _ (arrayAt (section f h) (walkOf (frame-of h handles) at) 64 at))
+
+-- ---- a class
+module _ (f : List ℕ) (h : Header) (handles : ℕ) where
+  below-kept : (c : Class) → (below f h handles c >>= accepted) ≡ belowPass f h handles (c .interfaces) (c .directory) (c .«data») (c .values)
+  unfolding below belowPass
+  below-kept c =
+      kept-on (typesAt f h (c .interfaces)) _ _ _ refl (λ i t.
+      kept-on (annotationsAt f h handles (c .directory)) _ _ _ refl (λ a t.
+      kept-on (dataAt f h handles (c .«data»)) _ _ _ refl (λ d t.
+      made-kept _ (staticsAt f h handles (c .values)))))
+
+  pub class-by : (n : ℕ) {r : Frame} {y : Outcome Unit} → r ≡ frame-of h 0
+      → y ≡ (classAt f r (h .end) (h .classes .offset) n >>= λ (c : Class). belowPass f h handles (c .interfaces) (c .directory) (c .«data») (c .values)) → y ≡ (classBelow f h handles n >>= accepted)
+  unfolding classBelow
+  class-by n {r} g e =
+      e ∙ (λ i. classAt f (g i) (h .end) (h .classes .offset) n >>= λ (c : Class). sym (below-kept c) i)
+      ∙ sym (bind-assoc (classAt f (frame-of h 0) (h .end) (h .classes .offset) n) (below f h handles) accepted)
+
+pub ruleset body-laws = (debug-by, on-debug, body-by, on-code, kept, calls, tests, needs)
+
+pub ruleset loop-laws = (going-first, going-next, going-stop, going-fail, going-done, needs)
+
+pub ruleset data-laws = (data-by, on-methods, on-passed, calls, needs)
+
+pub ruleset list-laws-of = (types-by, list-laws, calls, needs)
+
+pub ruleset framed = (directory-framed, data-framed, values-framed, on-step, kept, calls, needs)
+
+pub ruleset laws = (class-by, class-laws, kept, calls, needs)

@@ -1,0 +1,36 @@
+use Rattle.class_walk.proofs.Laws.{framed as laws}
+use Rattle.class_walk.specs.Classes.{dataAt}
+use Rattle.class_walk.proofs.data_below.Statement.{statement}
+use Rattle.class_walk.proofs.data_below.Tie as tie
+use Rattle.class_walk.proofs.data_below.Reads as reads
+use Rattle.class_walk.proofs.data_below.Lts as lts
+use Rattle.class_walk.proofs.check_data.Reads as check-data-reads
+use Rattle.header.proofs.frame_of.Reads as frame-of-reads
+use Rattle.header.proofs.section_of.Reads as section-of-reads
+
+-- src/lib.rt:158:9
+returns : tie.Need-returns
+unfolding dataAt
+returns c = search laws depth 7
+
+-- src/lib.rt:160:16
+section-of-requires : tie.Need-section-of-requires
+section-of-requires c κs = search laws depth 7
+
+-- src/lib.rt:160:42
+frame-of-requires : tie.Need-frame-of-requires
+frame-of-requires c κs = search laws depth 7
+
+-- src/lib.rt:160:5
+check-data-requires : tie.Need-check-data-requires
+check-data-requires c κs = search laws depth 7
+
+-- src/lib.rt:154:1
+returns-2 : tie.Need-returns-2
+unfolding dataAt
+returns-2 c = search laws depth 7
+
+pub data-below-spec : {M : Type 1} → statement M
+data-below-spec =
+    tie.close
+    (tie.spec returns section-of-requires frame-of-requires check-data-requires returns-2)

@@ -1,0 +1,63 @@
+use Rattle.class_walk.proofs.Laws.{framed as laws}
+use Rattle.class_walk.specs.Classes.{staticsAt}
+use Rattle.class_walk.proofs.values_below.Statement.{statement}
+use Rattle.class_walk.proofs.values_below.Tie as tie
+use Rattle.class_walk.proofs.values_below.Reads as reads
+use Rattle.class_walk.proofs.values_below.Lts as lts
+use Rattle.encoded_value.proofs.top_array.Reads as top-array-reads
+use Rattle.encoded_value.proofs.walk_of.Reads as walk-of-reads
+use Rattle.header.proofs.frame_of.Reads as frame-of-reads
+use Rattle.header.proofs.section_of.Reads as section-of-reads
+
+-- src/lib.rt:167:9
+returns : tie.Need-returns
+unfolding staticsAt
+returns c = search laws depth 8
+
+-- src/lib.rt:170:39
+frame-of-requires : tie.Need-frame-of-requires
+frame-of-requires c κs = search laws depth 8
+
+-- src/lib.rt:170:9
+walk-of-requires : tie.Need-walk-of-requires
+walk-of-requires c κs = search laws depth 8
+
+-- src/lib.rt:171:36
+section-of-requires : tie.Need-section-of-requires
+section-of-requires c κs = search laws depth 8
+
+-- src/lib.rt:171:11
+top-array-requires : tie.Need-top-array-requires
+top-array-requires c κs = search laws depth 8
+
+-- src/lib.rt:172:23
+enum-known-r : tie.Need-enum-known-r
+enum-known-r c = search laws depth 8
+
+-- src/lib.rt:173:26
+enum-told : tie.Need-enum-told
+enum-told c = search laws depth 8
+
+-- src/lib.rt:163:1
+returns-2 : tie.Need-returns-2
+unfolding staticsAt
+returns-2 c = search laws depth 8
+
+-- src/lib.rt:163:1
+returns-3 : tie.Need-returns-3
+unfolding staticsAt
+returns-3 c = search laws depth 8
+
+pub values-below-spec : {M : Type 1} → statement M
+values-below-spec =
+    tie.close
+    (tie.spec
+    returns
+    frame-of-requires
+    walk-of-requires
+    section-of-requires
+    top-array-requires
+    enum-known-r
+    enum-told
+    returns-2
+    returns-3)

@@ -1,0 +1,79 @@
+-- A class with all below it: "its record, interfaces, annotation directory, class data, then each method's code and its debug information, then static values".
+use Prim.Native.Nat.{ℕ}
+use mathlib.Core.Option.{Option}
+use mathlib.Core.List.{List}
+use Rattle.refusal.specs.Outcome.{Outcome, answer, _>>=_, present, accepted}
+use Rattle.header.specs.declared.Header.{Header}
+use Rattle.header.specs.Header.{section, frame-of}
+use Rattle.type_list.specs.TypeList.{listAt}
+use Rattle.class_ids.specs.declared.Class.{Class}
+use Rattle.class_ids.specs.Classes.{classAt}
+use Rattle.encoded_value.specs.declared.Walk.{Walk}
+use Rattle.encoded_value.specs.Kinds.{walkOf}
+use Rattle.encoded_value.specs.Tree.{Tree}
+use Rattle.encoded_value.specs.Readings.{arrayAt}
+use Rattle.annotation_walk.specs.Below.{Annotated, directoryBelow}
+use Rattle.table_readers.specs.Lists.{list-judge}
+use Rattle.class_walk.specs.Methods.{DataBelow, dataBelow}
+
+pub record ClassBelow : Type 0 where
+  pub own : Class
+  pub interfaces : Option (List ℕ)
+  pub annotations : Option Annotated
+  pub members : Option DataBelow
+  pub values : Option (List Tree)
+
+-- a list of types that may be absent
+unfoldable pub typesAt : List ℕ → Header → ℕ → Outcome (Option (List ℕ))
+typesAt f h at = present at (listAt (section f h) (list-judge h at))
+
+abbrev pub typesAccepted : List ℕ → Header → ℕ → Outcome Unit
+typesAccepted f h at = typesAt f h at >>= accepted
+
+-- static values: an array at depth 1
+unfoldable pub valuesAt : List ℕ → Walk → ℕ → Outcome (List Tree)
+valuesAt s w p = do
+  a ← arrayAt s w 64 p
+  answer (a .item)
+
+module _ (f : List ℕ) (h : Header) (handles : ℕ) where
+  unfoldable pub annotationsAt : ℕ → Outcome (Option Annotated)
+  annotationsAt at = present at (directoryBelow (section f h) (frame-of h handles) at)
+
+  unfoldable pub dataAt : ℕ → Outcome (Option DataBelow)
+  dataAt at = present at (dataBelow (section f h) (frame-of h 0) at)
+
+  unfoldable pub staticsAt : ℕ → Outcome (Option (List Tree))
+  staticsAt at = present at (valuesAt (section f h) (walkOf (frame-of h handles) at) at)
+
+  unfoldable pub below : Class → Outcome ClassBelow
+  below c = do
+    i ← typesAt f h (c .interfaces)
+    a ← annotationsAt (c .directory)
+    d ← dataAt (c .«data»)
+    v ← staticsAt (c .values)
+    answer (record { own = c; interfaces = i; annotations = a; members = d; values = v })
+
+  -- class n
+  unfoldable pub classBelow : ℕ → Outcome ClassBelow
+  classBelow n = classAt f (frame-of h 0) (h .end) (h .classes .offset) n >>= below
+
+  -- ---- stages of the code: that there is an answer, by the four offsets
+  abbrev pub annotationsAccepted : ℕ → Outcome Unit
+  annotationsAccepted at = annotationsAt at >>= accepted
+
+  abbrev pub membersAccepted : ℕ → Outcome Unit
+  membersAccepted at = dataAt at >>= accepted
+
+  abbrev pub staticsAccepted : ℕ → Outcome Unit
+  staticsAccepted at = staticsAt at >>= accepted
+
+  unfoldable pub belowPass : ℕ → ℕ → ℕ → ℕ → Outcome Unit
+  belowPass interfaces directory members values = do
+    u ← typesAccepted f h interfaces
+    u ← annotationsAccepted directory
+    u ← membersAccepted members
+    staticsAccepted values
+
+  abbrev pub classAccepted : ℕ → Outcome Unit
+  classAccepted n = classBelow n >>= accepted

@@ -1,0 +1,4 @@
+pub mod Methods
+pub mod Classes
+pub mod Rules
+pub mod Answers

@@ -1,0 +1,53 @@
+-- A class with all below it as a rule: each item that is reached obeys its own rules, with no walk.
+use Prim.Native.Nat.{ℕ}
+use mathlib.Core.Option.{Option}
+use mathlib.Core.List.{List}
+use Rattle.refusal.specs.Exact.{Present, Alike}
+use Rattle.frame.specs.declared.Frame.{Frame}
+use Rattle.header.specs.declared.Header.{Header}
+use Rattle.header.specs.Header.{section, frame-of}
+use Rattle.type_list.specs.Rules.{ListRule}
+use Rattle.class_ids.specs.Rules.{ClassRule}
+use Rattle.class_data.specs.declared.Member.{Member}
+use Rattle.class_data.specs.Rules.{DataRule}
+use Rattle.code_item.specs.Rules.{CodeRule}
+use Rattle.debug_info.specs.Rules.{DebugRule}
+use Rattle.encoded_value.specs.declared.Walk.{Walk}
+use Rattle.encoded_value.specs.Kinds.{walkOf}
+use Rattle.encoded_value.specs.Tree.{Tree}
+use Rattle.encoded_value.specs.Rules.{ArrayBody}
+use Rattle.annotation_walk.specs.Rules.{DirectoryBelow}
+use Rattle.table_readers.specs.Lists.{list-judge}
+use Rattle.class_walk.specs.Methods.{Body, DataBelow}
+use Rattle.class_walk.specs.Classes.{ClassBelow}
+
+module _ (s : List ℕ) (f : Frame) where
+  pub record BodyRule (item : ℕ) (b : Body) : Type 0 where
+    pub code : CodeRule s f item (b .code)
+    pub debug : Present (DebugRule s (f .strings) (b .code .head .debug)) (b .code .head .debug) (b .debug)
+
+  -- the code of a method, none exactly where its offset is 0
+  abbrev pub MethodRule : Member → Option Body → Type 0
+  MethodRule m = Present (BodyRule (m .code)) (m .code)
+
+  pub record DataBelowRule (item : ℕ) (d : DataBelow) : Type 0 where
+    pub members : DataRule s f item (d .members)
+    pub directs : Alike MethodRule (d .members .directs) (d .directs)
+    pub virtuals : Alike MethodRule (d .members .virtuals) (d .virtuals)
+
+-- static values: an array at depth 1, up to its end
+pub record ValuesRule (s : List ℕ) (w : Walk) (p : ℕ) (l : List Tree) : Type 0 where
+  pub ends : ℕ
+  pub body : ArrayBody s w 64 p l ends
+
+-- a list of types, none exactly where its offset is 0
+abbrev pub TypesRule : List ℕ → Header → ℕ → Option (List ℕ) → Type 0
+TypesRule f h at = Present (ListRule (section f h) (list-judge h at)) at
+
+-- class n and all that it leads to
+pub record ClassBelowRule (f : List ℕ) (h : Header) (handles n : ℕ) (c : ClassBelow) : Type 0 where
+  pub own : ClassRule f (frame-of h 0) (h .end) (h .classes .offset) n (c .own)
+  pub interfaces : TypesRule f h (c .own .interfaces) (c .interfaces)
+  pub annotations : Present (DirectoryBelow (section f h) (frame-of h handles) (c .own .directory)) (c .own .directory) (c .annotations)
+  pub members : Present (DataBelowRule (section f h) (frame-of h 0) (c .own .«data»)) (c .own .«data») (c .members)
+  pub values : Present (ValuesRule (section f h) (walkOf (frame-of h handles) (c .own .values)) (c .own .values)) (c .own .values) (c .values)

@@ -1,0 +1,222 @@
+// Going over a class with all that lies below it: own rules first, then the items pointed at, in stored order. Shared items are gone over
+// each time they are reached.
+use class_data::Judge;
+use class_data::Member;
+use class_data::MemberFound;
+use class_data::Methods;
+use class_data::MethodsAnswer;
+use class_ids::ClassAnswer;
+use code_item::CodeAnswer;
+use debug_info::DebugAnswer;
+use encoded_value::Step;
+use frame::Frame;
+use header::Header;
+use refusal::Checked;
+use refusal::Refusal;
+use type_list::CountAnswer;
+ghost use mathlib.Core.Path.{_≡_};
+ghost use Rattle.refusal.specs.Answers.{checked-outcome};
+ghost use Rattle.class_walk.specs.Methods.{debugAccepted, bodyAccepted, methodAccepted, methodsPass, bothPass, dataAccepted};
+ghost use Rattle.class_walk.specs.Classes.{typesAccepted, annotationsAccepted, membersAccepted, staticsAccepted, belowPass, classAccepted};
+ghost use Rattle.class_walk.specs.Answers.{passed-outcome};
+
+// The place after a list of methods.
+pub enum Passed {
+    To(usize),
+    Refused(Refusal),
+}
+
+// The debug information at an offset, if it is not absent.
+fn debug_below(s: &[u8], strings: u32, offset: u32) -> Checked
+    ensures { λ r. ⌜ checked-outcome r ≡ debugAccepted (now (s .entry)) strings offset ⌝ }
+{
+    if offset <= 0 {
+        return Checked::Accepted;
+    }
+    match debug_info::debug_at(s, strings, offset as usize) {
+        DebugAnswer::Refused(r) => Checked::Refused(r),
+        DebugAnswer::Got {
+            line: _,
+            names: _,
+            start: _,
+            length: _,
+        } => Checked::Accepted,
+    }
+}
+
+// A code item and its debug information.
+fn check_body(s: &[u8], f: Frame, item: usize) -> Checked
+    ensures { λ r. ⌜ checked-outcome r ≡ bodyAccepted (now (s .entry)) f item ⌝ }
+{
+    match code_item::code_at(s, f, item) {
+        CodeAnswer::Refused(r) => Checked::Refused(r),
+        CodeAnswer::Got(o) => {
+            let head = o.head;
+            debug_below(s, f.strings, head.debug)
+        }
+    }
+}
+
+// The body of a method, if it is not absent.
+fn method_below(s: &[u8], f: Frame, code: u32) -> Checked
+    ensures { λ r. ⌜ checked-outcome r ≡ methodAccepted (now (s .entry)) f code ⌝ }
+{
+    if code <= 0 {
+        return Checked::Accepted;
+    }
+    check_body(s, f, code as usize)
+}
+
+// A list of methods once more, with the body of each.
+fn methods_pass(s: &[u8], f: Frame, item: usize, from: usize, count: u32) -> Passed
+    ensures { λ r. ⌜ passed-outcome r ≡ methodsPass (now (s .entry)) f item from count ⌝ }
+{
+    let judge = Judge {
+        limit: f.methods,
+        code: true,
+        start: f.start,
+    };
+    let mut p = from;
+    let mut last = Member {
+        index: 0,
+        flags: 0,
+        code: 0,
+    };
+    let mut later = false;
+    let mut left = count;
+    while 0 < left {
+        match class_data::member_found(s, judge, item, last.index, later, p) {
+            MemberFound::Refused(r) => {
+                return Passed::Refused(r);
+            }
+            MemberFound::Got { member, next } => match method_below(s, f, member.code) {
+                Checked::Refused(r) => {
+                    return Passed::Refused(r);
+                }
+                Checked::Accepted => {
+                    last = member;
+                    p = next;
+                }
+            },
+        }
+        later = true;
+        left -= 1;
+    }
+    Passed::To(p)
+}
+
+// Direct methods, then virtual ones.
+fn both_pass(s: &[u8], f: Frame, item: usize, m: Methods) -> Checked
+    ensures { λ r. ⌜ checked-outcome r ≡ bothPass (now (s .entry)) f item m ⌝ }
+{
+    match methods_pass(s, f, item, m.from, m.directs) {
+        Passed::Refused(r) => Checked::Refused(r),
+        Passed::To(middle) => match methods_pass(s, f, item, middle, m.virtuals) {
+            Passed::Refused(r) => Checked::Refused(r),
+            Passed::To(_) => Checked::Accepted,
+        },
+    }
+}
+
+// Class data with all below it.
+pub fn check_data(s: &[u8], f: Frame, item: usize) -> Checked
+    ensures { λ r. ⌜ checked-outcome r ≡ dataAccepted (now (s .entry)) f item ⌝ }
+{
+    match class_data::methods_at(s, f, item) {
+        MethodsAnswer::Refused(r) => Checked::Refused(r),
+        MethodsAnswer::Got(m) => both_pass(s, f, item, m),
+    }
+}
+
+// A list of types, if it is not absent.
+pub fn check_types(f: &[u8], h: Header, at: u32) -> Checked
+    ensures { λ r. ⌜ checked-outcome r ≡ typesAccepted (now (f .entry)) h at ⌝ }
+{
+    match table_readers::list_count(f, h, at) {
+        CountAnswer::Refused(r) => Checked::Refused(r),
+        CountAnswer::Got(_) => Checked::Accepted,
+    }
+}
+
+fn annotations_below(f: &[u8], h: Header, handles: u32, at: u32) -> Checked
+    ensures { λ r. ⌜ checked-outcome r ≡ annotationsAccepted (now (f .entry)) h handles at ⌝ }
+{
+    if at <= 0 {
+        return Checked::Accepted;
+    }
+    annotation_walk::check_directory(
+        header::section_of(f, h),
+        header::frame_of(h, handles),
+        at as usize,
+    )
+}
+
+fn data_below(f: &[u8], h: Header, handles: u32, at: u32) -> Checked
+    ensures { λ r. ⌜ checked-outcome r ≡ membersAccepted (now (f .entry)) h handles at ⌝ }
+{
+    if at <= 0 {
+        return Checked::Accepted;
+    }
+    check_data(
+        header::section_of(f, h),
+        header::frame_of(h, 0),
+        at as usize,
+    )
+}
+
+fn values_below(f: &[u8], h: Header, handles: u32, at: u32) -> Checked
+    ensures { λ r. ⌜ checked-outcome r ≡ staticsAccepted (now (f .entry)) h handles at ⌝ }
+{
+    if at <= 0 {
+        return Checked::Accepted;
+    }
+    let place = at as usize;
+    let walk = encoded_value::walk_of(header::frame_of(h, handles), place);
+    match encoded_value::top_array(header::section_of(f, h), walk, place) {
+        Step::Refused(r) => Checked::Refused(r),
+        Step::Next(_) => Checked::Accepted,
+    }
+}
+
+// What the four offsets of a class lead to, in stored order but for the static values, which come last.
+fn below_pass(
+    f: &[u8],
+    h: Header,
+    handles: u32,
+    interfaces: u32,
+    directory: u32,
+    members: u32,
+    values: u32,
+) -> Checked
+    ensures { λ r. ⌜ checked-outcome r ≡ belowPass (now (f .entry)) h handles interfaces directory members values ⌝ }
+{
+    match check_types(f, h, interfaces) {
+        Checked::Refused(r) => Checked::Refused(r),
+        Checked::Accepted => match annotations_below(f, h, handles, directory) {
+            Checked::Refused(r) => Checked::Refused(r),
+            Checked::Accepted => match data_below(f, h, handles, members) {
+                Checked::Refused(r) => Checked::Refused(r),
+                Checked::Accepted => values_below(f, h, handles, values),
+            },
+        },
+    }
+}
+
+// Class n with all below it.
+pub fn check_class(f: &[u8], h: Header, handles: u32, n: u32) -> Checked
+    ensures { λ r. ⌜ checked-outcome r ≡ classAccepted (now (f .entry)) h handles n ⌝ }
+{
+    let t = h.classes;
+    match class_ids::class_at(f, header::frame_of(h, 0), h.end, t.offset, n) {
+        ClassAnswer::Refused(r) => Checked::Refused(r),
+        ClassAnswer::Got(c) => below_pass(
+            f,
+            h,
+            handles,
+            c.interfaces,
+            c.directory,
+            c.data,
+            c.values,
+        ),
+    }
+}

@@ -1,0 +1,70 @@
+use Rattle.whole_check.proofs.TableLaws.{Counting, counting as laws}
+use Rattle.ids.specs.Records.{handleAt}
+use Rattle.whole_check.proofs.tables.handles_pass.Statement.{statement}
+use Rattle.whole_check.proofs.tables.handles_pass.Tie as tie
+use Rattle.whole_check.proofs.tables.handles_pass.Reads as reads
+use Rattle.whole_check.proofs.tables.handles_pass.Lts as lts
+use Rattle.whole_check.proofs.tables.handle_pass.Reads as handle-pass-reads
+
+abbrev Inv-loop : tie.InvT-loop
+Inv-loop f r offset count k₀ left₀ k left = Counting (handleAt f r offset) count left k
+
+abbrev μ-loop : tie.MeasureT-loop
+μ-loop f r offset count k₀ left₀ k left = left
+
+-- src/tables.rt:128:5
+loop-holds : tie.Need-loop-holds Inv-loop μ-loop
+loop-holds c = search laws
+
+-- src/tables.rt:129:15
+handle-pass-requires : tie.Need-handle-pass-requires Inv-loop μ-loop
+handle-pass-requires c κs = search laws
+
+-- src/tables.rt:130:30
+enum-known-a : tie.Need-enum-known-a Inv-loop μ-loop
+enum-known-a c = search laws
+
+-- src/tables.rt:131:17
+returns : tie.Need-returns Inv-loop μ-loop
+returns c = search laws
+
+-- src/tables.rt:134:17
+enum-told : tie.Need-enum-told Inv-loop μ-loop
+enum-told c = search laws
+
+-- src/tables.rt:134:17
+add-k : tie.Need-add-k Inv-loop μ-loop
+add-k c = search laws
+
+-- src/tables.rt:137:9
+sub-left : tie.Need-sub-left Inv-loop μ-loop
+sub-left c = search laws
+
+-- src/tables.rt:128:5
+loop-less : tie.Need-loop-less Inv-loop μ-loop
+loop-less c = search laws
+
+-- src/tables.rt:128:5
+loop-again : tie.Need-loop-again Inv-loop μ-loop
+loop-again c = search laws
+
+-- src/tables.rt:123:1
+returns-2 : tie.Need-returns-2 Inv-loop μ-loop
+returns-2 c = search laws
+
+pub handles-pass-spec : {M : Type 1} → statement M
+handles-pass-spec =
+    tie.close
+    (tie.spec
+    Inv-loop
+    μ-loop
+    loop-holds
+    handle-pass-requires
+    enum-known-a
+    returns
+    enum-told
+    add-k
+    sub-left
+    loop-less
+    loop-again
+    returns-2)

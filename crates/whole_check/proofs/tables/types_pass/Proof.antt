@@ -1,0 +1,86 @@
+use Rattle.whole_check.proofs.TableLaws.{Typing, typing as laws}
+use Rattle.whole_check.proofs.tables.types_pass.Statement.{statement}
+use Rattle.whole_check.proofs.tables.types_pass.Tie as tie
+use Rattle.whole_check.proofs.tables.types_pass.Reads as reads
+use Rattle.whole_check.proofs.tables.types_pass.Lts as lts
+use Rattle.ids.proofs.type_at.Reads as type-at-reads
+use Rattle.whole_check.proofs.tables.place_of.Reads as place-of-reads
+use Rattle.whole_check.proofs.tables.rises.Reads as rises-reads
+
+abbrev Inv-loop : tie.InvT-loop
+Inv-loop f r offset count later₀ last₀ k₀ left₀ later last k left = Typing f r offset count left k later last
+
+abbrev μ-loop : tie.MeasureT-loop
+μ-loop f r offset count later₀ last₀ k₀ left₀ later last k left = left
+
+-- src/tables.rt:40:5
+loop-holds : tie.Need-loop-holds Inv-loop μ-loop
+loop-holds c = search laws
+
+-- src/tables.rt:41:15
+type-at-requires : tie.Need-type-at-requires Inv-loop μ-loop
+type-at-requires c κs = search laws
+
+-- src/tables.rt:42:34
+enum-known-a : tie.Need-enum-known-a Inv-loop μ-loop
+enum-known-a c = search laws
+
+-- src/tables.rt:43:17
+returns : tie.Need-returns Inv-loop μ-loop
+returns c = search laws
+
+-- src/tables.rt:45:30
+enum-known-string : tie.Need-enum-known-string Inv-loop μ-loop
+enum-known-string c = search laws
+
+-- src/tables.rt:46:20
+rises-requires : tie.Need-rises-requires Inv-loop μ-loop
+rises-requires c κs = search laws
+
+-- src/tables.rt:51:32
+place-of-requires : tie.Need-place-of-requires Inv-loop μ-loop
+place-of-requires c κs = search laws
+
+-- src/tables.rt:49:21
+returns-2 : tie.Need-returns-2 Inv-loop μ-loop
+returns-2 c = search laws
+
+-- src/tables.rt:57:9
+add-k : tie.Need-add-k Inv-loop μ-loop
+add-k c = search laws
+
+-- src/tables.rt:58:9
+sub-left : tie.Need-sub-left Inv-loop μ-loop
+sub-left c = search laws
+
+-- src/tables.rt:40:5
+loop-less : tie.Need-loop-less Inv-loop μ-loop
+loop-less c = search laws
+
+-- src/tables.rt:40:5
+loop-again : tie.Need-loop-again Inv-loop μ-loop
+loop-again c = search laws
+
+-- src/tables.rt:33:1
+returns-3 : tie.Need-returns-3 Inv-loop μ-loop
+returns-3 c = search laws
+
+pub types-pass-spec : {M : Type 1} → statement M
+types-pass-spec =
+    tie.close
+    (tie.spec
+    Inv-loop
+    μ-loop
+    loop-holds
+    type-at-requires
+    enum-known-a
+    returns
+    enum-known-string
+    rises-requires
+    place-of-requires
+    returns-2
+    add-k
+    sub-left
+    loop-less
+    loop-again
+    returns-3)

@@ -1,0 +1,73 @@
+-- A whole file: everything that it says, in the order of the whole check.
+use Prim.Native.Nat.{ℕ}
+use mathlib.Core.Option.{Option}
+use mathlib.Core.List.{List}
+use Rattle.refusal.specs.Outcome.{Outcome, answer, _>>=_, accepted}
+use Rattle.refusal.specs.Rows.{every}
+use Rattle.header.specs.declared.Header.{Header}
+use Rattle.header.specs.Header.{headerAt, frame-of}
+use Rattle.map_list.specs.Map.{Map, mapAt}
+use Rattle.text.specs.Text.{Text}
+use Rattle.string_ids.specs.Strings.{stringsAt}
+use Rattle.ids.specs.declared.Proto.{Proto}
+use Rattle.ids.specs.declared.Member.{Member}
+use Rattle.ids.specs.declared.Handle.{Handle}
+use Rattle.ids.specs.Records.{typesAt, protoAt, memberAt, handleAt}
+use Rattle.class_walk.specs.Classes as C
+
+-- a proto with its parameters
+pub record ProtoBelow : Type 0 where
+  pub own : Proto
+  pub parameters : Option (List ℕ)
+
+-- what a file says
+pub record File : Type 0 where
+  pub header : Header
+  pub map : Map
+  pub strings : List Text
+  pub types : List ℕ
+  pub protos : List ProtoBelow
+  pub fields : List Member
+  pub methods : List Member
+  pub handles : List Handle
+  pub classes : List C.ClassBelow
+
+module _ (f : List ℕ) (h : Header) where
+  -- proto n: its record, then its parameter list
+  unfoldable pub protoBelow : ℕ → Outcome ProtoBelow
+  protoBelow n = do
+    p ← protoAt f (frame-of h 0) (h .end) (h .protos .offset) n
+    l ← C.typesAt f h (p .parameters)
+    answer (record { own = p; parameters = l })
+
+  abbrev pub fieldAt : ℕ → Outcome Member
+  fieldAt = memberAt f (frame-of h 0) (h .types .count) (h .fields .offset)
+
+  abbrev pub methodAt : ℕ → Outcome Member
+  methodAt = memberAt f (frame-of h 0) (h .protos .count) (h .methods .offset)
+
+  abbrev pub handleIn : Map → ℕ → Outcome Handle
+  handleIn m = handleAt f (frame-of h (m .handles .count)) (m .handles .offset)
+
+  -- "strings; types; protos with their parameter lists; fields; methods; handles; classes by number"
+  unfoldable pub tablesAt : Map → Outcome File
+  tablesAt m = do
+    strings ← stringsAt f h
+    types ← typesAt f (frame-of h 0) (h .types .offset) (h .types .count)
+    protos ← every protoBelow (h .protos .count)
+    fields ← every fieldAt (h .fields .count)
+    methods ← every methodAt (h .methods .count)
+    handles ← every (handleIn m) (m .handles .count)
+    classes ← every (C.classBelow f h (m .handles .count)) (h .classes .count)
+    answer (record { header = h; map = m; strings = strings; types = types; protos = protos; fields = fields; methods = methods; handles = handles; classes = classes })
+
+-- "Header; map; .."
+unfoldable pub fileAt : List ℕ → Outcome File
+fileAt f = do
+  h ← headerAt f
+  m ← mapAt f h
+  tablesAt f h m
+
+-- the check keeps only that there is an answer: "The first broken rule is answered."
+unfoldable pub checkAt : List ℕ → Outcome Unit
+checkAt f = fileAt f >>= accepted

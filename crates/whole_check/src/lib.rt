@@ -1,0 +1,101 @@
+// The check of a whole file: header and map once, then each table with all below it, up to the first broken rule.
+use header::Header;
+use header::HeaderAnswer;
+use header::Table;
+use map_list::MapAnswer;
+use refusal::Checked;
+ghost use mathlib.Core.Path.{_≡_};
+ghost use Rattle.refusal.specs.Answers.{checked-outcome};
+ghost use Rattle.whole_check.specs.File.{checkAt};
+ghost use Rattle.whole_check.specs.Passes.{stringsPass, namesPass, recordsPass, itemsPass, tablesPass, passIn};
+
+mod tables;
+
+// All strings, with their order: the lookup of no text reads each of them.
+fn strings_pass(f: &[u8], h: Header) -> Checked
+    ensures { λ r. ⌜ checked-outcome r ≡ stringsPass (now (f .entry)) h ⌝ }
+{
+    match string_ids::look_up(f, h, &f[0..0]) {
+        string_ids::Lookup::Refused(r) => Checked::Refused(r),
+        string_ids::Lookup::Got(_) => Checked::Accepted,
+    }
+}
+
+// Strings, types, and protos with their parameters.
+fn names_pass(f: &[u8], h: Header) -> Checked
+    ensures { λ r. ⌜ checked-outcome r ≡ namesPass (now (f .entry)) h ⌝ }
+{
+    let types = h.types;
+    let protos = h.protos;
+    match strings_pass(f, h) {
+        Checked::Refused(r) => Checked::Refused(r),
+        Checked::Accepted => {
+            match tables::types_pass(f, header::frame_of(h, 0), types.offset, types.count) {
+                Checked::Refused(r) => Checked::Refused(r),
+                Checked::Accepted => tables::protos_pass(f, h, protos.count),
+            }
+        }
+    }
+}
+
+// Fields and methods.
+fn records_pass(f: &[u8], h: Header) -> Checked
+    ensures { λ r. ⌜ checked-outcome r ≡ recordsPass (now (f .entry)) h ⌝ }
+{
+    let types = h.types;
+    let protos = h.protos;
+    let fields = h.fields;
+    let methods = h.methods;
+    let frame = header::frame_of(h, 0);
+    match tables::members_pass(f, frame, types.count, fields.offset, fields.count) {
+        Checked::Refused(r) => Checked::Refused(r),
+        Checked::Accepted => {
+            tables::members_pass(f, frame, protos.count, methods.offset, methods.count)
+        }
+    }
+}
+
+// Method handles, and classes with all below them.
+fn items_pass(f: &[u8], h: Header, t: Table) -> Checked
+    ensures { λ r. ⌜ checked-outcome r ≡ itemsPass (now (f .entry)) h t ⌝ }
+{
+    let classes = h.classes;
+    match tables::handles_pass(f, header::frame_of(h, t.count), t.offset, t.count) {
+        Checked::Refused(r) => Checked::Refused(r),
+        Checked::Accepted => tables::classes_pass(f, h, t.count, classes.count),
+    }
+}
+
+fn tables_pass(f: &[u8], h: Header, t: Table) -> Checked
+    ensures { λ r. ⌜ checked-outcome r ≡ tablesPass (now (f .entry)) h t ⌝ }
+{
+    match names_pass(f, h) {
+        Checked::Refused(r) => Checked::Refused(r),
+        Checked::Accepted => match records_pass(f, h) {
+            Checked::Refused(r) => Checked::Refused(r),
+            Checked::Accepted => items_pass(f, h, t),
+        },
+    }
+}
+
+fn check_in(f: &[u8], h: Header) -> Checked
+    ensures { λ r. ⌜ checked-outcome r ≡ passIn (now (f .entry)) h ⌝ }
+{
+    match map_list::map_of(f, h) {
+        MapAnswer::Refused(r) => Checked::Refused(r),
+        MapAnswer::Got(m) => {
+            let t = m.handles;
+            tables_pass(f, h, t)
+        }
+    }
+}
+
+// Accepted, or the first broken rule in document 01's order.
+pub fn check(f: &[u8]) -> Checked
+    ensures { λ r. ⌜ checked-outcome r ≡ checkAt (now (f .entry)) ⌝ }
+{
+    match header::header_of(f) {
+        HeaderAnswer::Refused(r) => Checked::Refused(r),
+        HeaderAnswer::Got(h) => check_in(f, h),
+    }
+}

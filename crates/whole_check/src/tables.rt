@@ -1,0 +1,168 @@
+// Tables gone over record by record, each with all below it.
+use frame::Frame;
+use header::Header;
+use ids::HandleAnswer;
+use ids::IndexAnswer;
+use ids::MemberAnswer;
+use ids::ProtoAnswer;
+use refusal::Checked;
+use refusal::Refusal;
+ghost use mathlib.Core.Path.{_≡_};
+ghost use Prim.Native.Nat.{_+_, _*_};
+ghost use Rattle.refusal.specs.Answers.{checked-outcome};
+ghost use Rattle.whole_check.specs.Passes.{rising, typesPass, protoPass, protosPass, memberPass, membersPass, handlePass, handlesPass, classesPass};
+
+// Does a type's string come after the last one, if there was one.
+fn rises(later: bool, last: u32, string: u32) -> bool
+    ensures { λ r. ⌜ r ≡ rising later last string ⌝ }
+{
+    if later {
+        return last < string;
+    }
+    true
+}
+
+// Where the record of type n is.
+fn place_of(offset: u32, n: u32) -> usize
+    ensures { λ r. ⌜ r ≡ offset + 4 * n ⌝ }
+{
+    offset as usize + 4 * n as usize
+}
+
+// All types, each by its own rule and then by its order.
+pub fn types_pass(f: &[u8], r: Frame, offset: u32, count: u32) -> Checked
+    ensures { λ a. ⌜ checked-outcome a ≡ typesPass (now (f .entry)) r offset count ⌝ }
+{
+    let mut later = false;
+    let mut last: u32 = 0;
+    let mut k: u32 = 0;
+    let mut left = count;
+    while 0 < left {
+        match ids::type_at(f, r, offset, k) {
+            IndexAnswer::Refused(a) => {
+                return Checked::Refused(a);
+            }
+            IndexAnswer::Got(string) => {
+                if rises(later, last, string) {
+                    last = string;
+                } else {
+                    return Checked::Refused(Refusal {
+                        number: 15,
+                        place: place_of(offset, k),
+                    });
+                }
+            }
+        }
+        later = true;
+        k += 1;
+        left -= 1;
+    }
+    Checked::Accepted
+}
+
+// Proto n with its parameter list.
+fn proto_pass(f: &[u8], h: Header, n: u32) -> Checked
+    ensures { λ r. ⌜ checked-outcome r ≡ protoPass (now (f .entry)) h n ⌝ }
+{
+    let t = h.protos;
+    match ids::proto_at(f, header::frame_of(h, 0), h.end, t.offset, n) {
+        ProtoAnswer::Refused(r) => Checked::Refused(r),
+        ProtoAnswer::Got(p) => class_walk::check_types(f, h, p.parameters),
+    }
+}
+
+pub fn protos_pass(f: &[u8], h: Header, count: u32) -> Checked
+    ensures { λ r. ⌜ checked-outcome r ≡ protosPass (now (f .entry)) h count ⌝ }
+{
+    let mut k: u32 = 0;
+    let mut left = count;
+    while 0 < left {
+        match proto_pass(f, h, k) {
+            Checked::Refused(r) => {
+                return Checked::Refused(r);
+            }
+            Checked::Accepted => {
+                k += 1;
+            }
+        }
+        left -= 1;
+    }
+    Checked::Accepted
+}
+
+// Field or method n: `kinds` counts types for a field, protos for a method.
+fn member_pass(f: &[u8], r: Frame, kinds: u32, offset: u32, n: u32) -> Checked
+    ensures { λ a. ⌜ checked-outcome a ≡ memberPass (now (f .entry)) r kinds offset n ⌝ }
+{
+    match ids::member_at(f, r, kinds, offset, n) {
+        MemberAnswer::Refused(a) => Checked::Refused(a),
+        MemberAnswer::Got(_) => Checked::Accepted,
+    }
+}
+
+pub fn members_pass(f: &[u8], r: Frame, kinds: u32, offset: u32, count: u32) -> Checked
+    ensures { λ a. ⌜ checked-outcome a ≡ membersPass (now (f .entry)) r kinds offset count ⌝ }
+{
+    let mut k: u32 = 0;
+    let mut left = count;
+    while 0 < left {
+        match member_pass(f, r, kinds, offset, k) {
+            Checked::Refused(a) => {
+                return Checked::Refused(a);
+            }
+            Checked::Accepted => {
+                k += 1;
+            }
+        }
+        left -= 1;
+    }
+    Checked::Accepted
+}
+
+fn handle_pass(f: &[u8], r: Frame, offset: u32, n: u32) -> Checked
+    ensures { λ a. ⌜ checked-outcome a ≡ handlePass (now (f .entry)) r offset n ⌝ }
+{
+    match ids::handle_at(f, r, offset, n) {
+        HandleAnswer::Refused(a) => Checked::Refused(a),
+        HandleAnswer::Got(_) => Checked::Accepted,
+    }
+}
+
+pub fn handles_pass(f: &[u8], r: Frame, offset: u32, count: u32) -> Checked
+    ensures { λ a. ⌜ checked-outcome a ≡ handlesPass (now (f .entry)) r offset count ⌝ }
+{
+    let mut k: u32 = 0;
+    let mut left = count;
+    while 0 < left {
+        match handle_pass(f, r, offset, k) {
+            Checked::Refused(a) => {
+                return Checked::Refused(a);
+            }
+            Checked::Accepted => {
+                k += 1;
+            }
+        }
+        left -= 1;
+    }
+    Checked::Accepted
+}
+
+// All classes, each with all below it.
+pub fn classes_pass(f: &[u8], h: Header, handles: u32, count: u32) -> Checked
+    ensures { λ r. ⌜ checked-outcome r ≡ classesPass (now (f .entry)) h handles count ⌝ }
+{
+    let mut k: u32 = 0;
+    let mut left = count;
+    while 0 < left {
+        match class_walk::check_class(f, h, handles, k) {
+            Checked::Refused(r) => {
+                return Checked::Refused(r);
+            }
+            Checked::Accepted => {
+                k += 1;
+            }
+        }
+        left -= 1;
+    }
+    Checked::Accepted
+}
