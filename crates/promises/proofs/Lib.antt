@@ -1,0 +1,4 @@
+pub mod Asked
+pub mod Whole
+pub mod Tables
+pub mod Promises
