@@ -1,4 +1,6 @@
 pub mod Asked
 pub mod Whole
 pub mod Tables
+pub mod Picked
+pub mod Methods
 pub mod Promises
