@@ -3,4 +3,5 @@ pub mod Whole
 pub mod Tables
 pub mod Picked
 pub mod Methods
+pub mod Indices
 pub mod Promises

@@ -85,7 +85,7 @@ module _ (f : List ℕ) {r : File} (reads : Reads f r) {C : Type 0} (c : ℕ) wh
           → (pick k l >>= λ (x : Member). spotAt (r .header) (x .code) >>= onward then) ≡ (pick k m >>= onward g)
       bodied both = picked-alike both k _ (onward g) (λ x b rule. spotted (r .header) then g rule (λ b q. same _ b q))
 
-      -- "The code of a field" is not there, nor is a fifth list
+      -- the code of a field is not there, nor is a fifth list
       by-list : (list : ℕ) {at : ℕ} (d : DataBelow) → DataBelowRule (section f (r .header)) (frame-of (r .header) 0) at d
           → (pick k (listOf list (d .members)) >>= λ (x : Member). given (leb 2 list) 7 0 (spotAt (r .header) (x .code)) >>= onward then) ≡ (pick k (bodiesOf list d) >>= onward g)
       unfolding given _>>=_ pick
