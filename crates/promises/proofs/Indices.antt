@@ -13,7 +13,6 @@ use native.Mathlib.Omega.{arith}
 use Rattle.refusal.specs.Exact.{Present, absent, found-there, Row, empty, first, here, there, Alike}
 use Rattle.refusal.proofs.Each.{at-below, at-some}
 use Rattle.header.specs.Header.{section, frame-of}
-use Rattle.ids.specs.declared.Member.{Member}
 use Rattle.class_ids.specs.declared.Class.{Class}
 use Rattle.class_ids.specs.declared.Maybe.the-variants.{Number, Absent}
 use Rattle.class_ids.specs.Classes.{maybeOf}
