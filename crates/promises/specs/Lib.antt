@@ -1,3 +1,5 @@
 pub mod Reads
 pub mod Tables
+pub mod Methods
+pub mod Indices
 pub mod Promises
