@@ -1,4 +1,5 @@
 pub mod Asked
 pub mod Whole
 pub mod Tables
+pub mod Annotations
 pub mod Promises

@@ -1,3 +1,4 @@
 pub mod Reads
 pub mod Tables
+pub mod Annotations
 pub mod Promises
