@@ -4,4 +4,5 @@ pub mod Tables
 pub mod Picked
 pub mod Methods
 pub mod Indices
+pub mod Annotations
 pub mod Promises
