@@ -4,5 +4,6 @@ pub mod Tables
 pub mod Picked
 pub mod Methods
 pub mod Indices
+pub mod Given
 pub mod Annotations
 pub mod Promises

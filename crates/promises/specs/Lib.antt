@@ -2,5 +2,6 @@ pub mod Reads
 pub mod Tables
 pub mod Methods
 pub mod Indices
+pub mod Given
 pub mod Annotations
 pub mod Promises
