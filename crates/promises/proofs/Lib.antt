@@ -2,6 +2,7 @@ pub mod Asked
 pub mod Whole
 pub mod Tables
 pub mod Picked
-pub mod Methods
 pub mod Indices
+pub mod Ruled
+pub mod Methods
 pub mod Promises
