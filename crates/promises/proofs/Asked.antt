@@ -3,13 +3,13 @@
 use Prim.Native.Nat.{ℕ, zero, suc, _<_, _≤_}
 use mathlib.Core.Path.{_≡_, refl, sym, _∙_}
 use mathlib.Core.Logic.{_⊎_, inl, inr}
-use mathlib.Core.List.{List}
+use mathlib.Core.List.{List, [], _∷_}
 use lib.ListN.{length}
 use lib.Dec.{ltb}
 use borrow.Author.Tests.{lt-ltb, le-ltb}
 use native.Mathlib.Omega.{arith}
 use Rattle.refusal.specs.Outcome.{Outcome, answer, refused, _>>=_, given}
-use Rattle.refusal.specs.Exact.{Each}
+use Rattle.refusal.specs.Exact.{Each, At, here, there}
 use Rattle.refusal.proofs.Laws.{bind-answer, bind-refused, passes, fails}
 use Rattle.refusal.proofs.Each.{at-some}
 use Rattle.value_bodies.specs.Bodies.{pick}
@@ -59,3 +59,17 @@ asked-part {A} {B} entry each own reads n = sym (made-same _) ∙ asked entry ea
 pub asked-plain : {A : Type 0} (entry : ℕ → Outcome A) {Rule : ℕ → A → Type 0} {count : ℕ} {l : List A} → Each Rule count l
     → ((n : ℕ) (a : A) → Rule n a → entry n ≡ answer a) → (n : ℕ) → given (ltb n count) 7 0 (entry n) ≡ pick n l
 asked-plain {A} entry each reads n = asked-part entry each (λ (a : A). a) reads n ∙ made-same _
+
+-- number k of two lists of one length, and what is made of each
+pub pick-both : {A B C : Type 0} (l : List A) (m : List B) (k : ℕ) (g : A → Outcome C) (h : B → Outcome C) → length l ≡ length m
+    → ((a : A) (b : B) → At l k a → At m k b → g a ≡ h b) → (pick k l >>= g) ≡ (pick k m >>= h)
+unfolding pick _>>=_
+pick-both [] [] k g h e same = refl
+pick-both [] (b ∷ m) k g h e same = absurd (omega arith)
+pick-both (a ∷ l) [] k g h e same = absurd (omega arith)
+pick-both (a ∷ l) (b ∷ m) zero g h e same = same a b here here
+pick-both (a ∷ l) (b ∷ m) (suc k) g h e same = pick-both l m k g h (omega arith) (λ x y p q. same x y (there p) (there q))
+
+-- there is nothing in an empty list
+pub pick-empty : {A C : Type 0} (k : ℕ) (g : A → Outcome C) → refused (record { number = 7; place = 0 }) ≡ (pick k [] >>= g)
+pick-empty k g = sym (bind-refused g (pick-none [] k (omega arith)))

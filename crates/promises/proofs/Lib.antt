@@ -5,4 +5,5 @@ pub mod Picked
 pub mod Indices
 pub mod Ruled
 pub mod Methods
+pub mod Annotations
 pub mod Promises

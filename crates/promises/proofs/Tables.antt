@@ -70,7 +70,7 @@ module _ (f : List ℕ) {r : File} (reads : Reads f r) where
   pub headed : {B : Type 0} (k : Header → Outcome B) → (headerAt f >>= k) ≡ k (r .header)
   headed k = bind-answer k (header-exact f .complete (r .header) (reads .header))
 
-  mapped : keptAt f (r .header) ≡ kept (r .map)
+  pub mapped : keptAt f (r .header) ≡ kept (r .map)
   unfolding keptAt
   mapped = bind-answer kept (map-exact f (r .header) .complete (r .map) (reads .map))
 

@@ -2,4 +2,5 @@ pub mod Reads
 pub mod Tables
 pub mod Methods
 pub mod Indices
+pub mod Annotations
 pub mod Promises

@@ -1,0 +1,143 @@
+-- What the proofs of rows and of exported functions cite.
+-- Assumes nothing.
+use Prim.Native.Nat.{ℕ}
+use mathlib.Core.Path.{_≡_, ap, sym, _∙_}
+use mathlib.Core.Option.{Option}
+use mathlib.Core.List.{List, [], _∷_}
+use lib.IntN.{ℤ}
+use mir.Syntax.{Width}
+use mir.Val.{SFits, toZ, ofZ}
+use mir.Facts.{toZ-ofZ}
+use borrow.Author.Needs.{needs}
+use Rattle.refusal.specs.Outcome.{Outcome}
+use Rattle.header.specs.declared.Header.{Header}
+use Rattle.decoded_value.specs.declared.Value.{Value}
+use Rattle.decoded_value.specs.Shown.{value-shown}
+use Rattle.table_readers.specs.declared.CountAnswer as Count
+use Rattle.table_readers.specs.Answers.{count-outcome}
+use Rattle.table_readers.specs.declared.EntryAnswer as Entry
+use Rattle.table_readers.specs.Answers.{entry-outcome}
+use Rattle.ids.specs.declared.HandleAnswer as Handle
+use Rattle.ids.specs.Answers.{handle-outcome}
+use Rattle.text.specs.declared.TextAnswer as Text
+use Rattle.text.specs.Answers.{text-outcome}
+use Rattle.ids.specs.declared.IndexAnswer as Index
+use Rattle.ids.specs.Answers.{index-outcome}
+use Rattle.ids.specs.declared.ProtoAnswer as Proto
+use Rattle.ids.specs.Answers.{proto-outcome}
+use Rattle.ids.specs.declared.MemberAnswer as Member
+use Rattle.ids.specs.Answers.{member-outcome}
+use Rattle.type_list.specs.declared.CountAnswer as List
+use Rattle.type_list.specs.Answers.{count-outcome as list-outcome}
+use Rattle.type_list.specs.declared.TypeAnswer as Listed
+use Rattle.type_list.specs.Answers.{type-outcome as listed-outcome}
+use Rattle.access_flags.specs.declared.FlagsAnswer as Flags
+use Rattle.access_flags.specs.Answers.{flags-outcome}
+use Rattle.value_readers.specs.declared.ArrayAnswer as Array
+use Rattle.value_readers.specs.Answers.{array-outcome}
+use Rattle.value_readers.specs.declared.BodyAnswer as Body
+use Rattle.value_readers.specs.Answers.{body-outcome}
+use Rattle.value_bodies.specs.declared.Count as Size
+use Rattle.value_bodies.specs.Answers.{count-outcome as size-outcome}
+use Rattle.value_bodies.specs.declared.Picked as Picked
+use Rattle.value_bodies.specs.Answers.{picked-outcome}
+use Rattle.value_bodies.specs.declared.Element as Element
+use Rattle.value_bodies.specs.Answers.{element-outcome}
+use Rattle.class_ids.specs.declared.Class.{Class}
+use Rattle.class_ids.specs.declared.ClassAnswer.{ClassAnswer}
+use Rattle.class_ids.specs.Answers.{class-outcome}
+use Rattle.header.specs.declared.HeaderAnswer.{HeaderAnswer}
+use Rattle.header.specs.Answers.{header-outcome}
+use Rattle.string_ids.specs.declared.Found.{Found}
+use Rattle.string_ids.specs.declared.Lookup as Lookup
+use Rattle.string_ids.specs.Answers.{found-number, lookup-outcome}
+use Rattle.answer_rows.specs.Words.{class-words, joined-words, maybe-word, signature-words, array-words, bits-of, body-words, element-words, entry-words, handle-words, header-words, member-words, named-words, number-words, order-word, ordered-words, proto-words, row, text-words, told, told-if, value-words}
+
+-- ---- values
+-- a value that is known, and its number
+pub shown-by : (v c : Value) (name : ℕ) {y : List ℕ} → v ≡ c → y ≡ row (0 ∷ named-words (value-shown c) name) → y ≡ row (0 ∷ named-words (value-shown v) name)
+shown-by v c name e q = q ∙ ap (λ (u : Value). row (0 ∷ named-words (value-shown u) name)) (sym e)
+
+pub numbered-by : {kind x n name : ℕ} {y : List ℕ} → x ≡ n → y ≡ row (0 ∷ kind ∷ x ∷ 0 ∷ name ∷ []) → y ≡ row (0 ∷ kind ∷ n ∷ 0 ∷ name ∷ [])
+numbered-by {kind} {x} {n} {name} e q = q ∙ ap (λ (k : ℕ). row (0 ∷ kind ∷ k ∷ 0 ∷ name ∷ [])) e
+
+-- a signed number, as the machine reads it from its bits
+pub signed-by : (w : Width) (z : ℤ) {kind x name : ℕ} {y : List ℕ} → SFits w z → x ≡ bits-of (toZ w (ofZ w z)) → y ≡ row (0 ∷ kind ∷ x ∷ 0 ∷ name ∷ [])
+    → y ≡ row (0 ∷ kind ∷ bits-of z ∷ 0 ∷ name ∷ [])
+signed-by w z f e q = numbered-by (e ∙ ap bits-of (toZ-ofZ f)) q
+
+pub ruleset laws = (shown-by, numbered-by, signed-by, needs)
+
+-- ---- rows: the arm that was taken says which answer it is
+pub arm : {X A : Type 0} (means : X → Outcome A) (words : A → List ℕ) (x c : X) {y : List ℕ} → x ≡ c → y ≡ told words (means c) → y ≡ told words (means x)
+arm means words x c e q = q ∙ ap (λ (u : _). told words (means u)) (sym e)
+
+pub count-arm : (x c : Count.CountAnswer) {y : List ℕ} → x ≡ c → y ≡ told number-words (count-outcome c) → y ≡ told number-words (count-outcome x)
+count-arm = arm count-outcome number-words
+
+pub entry-arm : (x c : Entry.EntryAnswer) {y : List ℕ} → x ≡ c → y ≡ told entry-words (entry-outcome c) → y ≡ told entry-words (entry-outcome x)
+entry-arm = arm entry-outcome entry-words
+
+pub handle-arm : (x c : Handle.HandleAnswer) {y : List ℕ} → x ≡ c → y ≡ told handle-words (handle-outcome c) → y ≡ told handle-words (handle-outcome x)
+handle-arm = arm handle-outcome handle-words
+
+pub text-arm : (x c : Text.TextAnswer) {y : List ℕ} → x ≡ c → y ≡ told text-words (text-outcome c) → y ≡ told text-words (text-outcome x)
+text-arm = arm text-outcome text-words
+
+pub index-arm : (x c : Index.IndexAnswer) {y : List ℕ} → x ≡ c → y ≡ told number-words (index-outcome c) → y ≡ told number-words (index-outcome x)
+index-arm = arm index-outcome number-words
+
+pub proto-arm : (x c : Proto.ProtoAnswer) {y : List ℕ} → x ≡ c → y ≡ told proto-words (proto-outcome c) → y ≡ told proto-words (proto-outcome x)
+proto-arm = arm proto-outcome proto-words
+
+pub member-arm : (x c : Member.MemberAnswer) {y : List ℕ} → x ≡ c → y ≡ told member-words (member-outcome c) → y ≡ told member-words (member-outcome x)
+member-arm = arm member-outcome member-words
+
+pub list-arm : (x c : List.CountAnswer) {y : List ℕ} → x ≡ c → y ≡ told number-words (list-outcome c) → y ≡ told number-words (list-outcome x)
+list-arm = arm list-outcome number-words
+
+pub listed-arm : (x c : Listed.TypeAnswer) {y : List ℕ} → x ≡ c → y ≡ told number-words (listed-outcome c) → y ≡ told number-words (listed-outcome x)
+listed-arm = arm listed-outcome number-words
+
+pub flags-arm : (x c : Flags.FlagsAnswer) {y : List ℕ} → x ≡ c → y ≡ told number-words (flags-outcome c) → y ≡ told number-words (flags-outcome x)
+flags-arm = arm flags-outcome number-words
+
+pub array-arm : (x c : Array.ArrayAnswer) {y : List ℕ} → x ≡ c → y ≡ told array-words (array-outcome c) → y ≡ told array-words (array-outcome x)
+array-arm = arm array-outcome array-words
+
+pub body-arm : (x c : Body.BodyAnswer) {y : List ℕ} → x ≡ c → y ≡ told body-words (body-outcome c) → y ≡ told body-words (body-outcome x)
+body-arm = arm body-outcome body-words
+
+pub size-arm : (x c : Size.Count) {y : List ℕ} → x ≡ c → y ≡ told number-words (size-outcome c) → y ≡ told number-words (size-outcome x)
+size-arm = arm size-outcome number-words
+
+pub picked-arm : (x c : Picked.Picked) {y : List ℕ} → x ≡ c → y ≡ told value-words (picked-outcome c) → y ≡ told value-words (picked-outcome x)
+picked-arm = arm picked-outcome value-words
+
+pub element-arm : (x c : Element.Element) {y : List ℕ} → x ≡ c → y ≡ told element-words (element-outcome c) → y ≡ told element-words (element-outcome x)
+element-arm = arm element-outcome element-words
+
+pub ruleset arms = (count-arm, entry-arm, handle-arm, text-arm, index-arm, proto-arm, member-arm, list-arm, listed-arm, flags-arm, array-arm, body-arm, size-arm, picked-arm, element-arm, needs)
+
+-- ---- the larger rows
+pub ordered : (h : Header) {o : ℕ} {y : List ℕ} → o ≡ order-word (h .order) → y ≡ row (0 ∷ ordered-words h o) → y ≡ row (0 ∷ header-words h)
+unfolding header-words
+ordered h e q = q ∙ ap (λ (o : ℕ). row (0 ∷ ordered-words h o)) e
+
+pub joined : (c : Class) {s f : ℕ} {y : List ℕ} → s ≡ maybe-word (c .superclass) → f ≡ maybe-word (c .source) → y ≡ row (0 ∷ joined-words c s f) → y ≡ row (0 ∷ class-words c)
+unfolding class-words
+joined c e g q = q ∙ λ i. row (0 ∷ joined-words c (e i) (g i))
+
+pub header-arm : (words : Header → List ℕ) (x c : HeaderAnswer) {y : List ℕ} → x ≡ c → y ≡ told words (header-outcome c) → y ≡ told words (header-outcome x)
+header-arm words = arm header-outcome words
+
+pub class-arm : (x c : ClassAnswer) {y : List ℕ} → x ≡ c → y ≡ told class-words (class-outcome c) → y ≡ told class-words (class-outcome x)
+class-arm = arm class-outcome class-words
+
+pub lookup-arm : (x c : Lookup.Lookup) {y : List ℕ} → x ≡ c → y ≡ told-if number-words (lookup-outcome c) → y ≡ told-if number-words (lookup-outcome x)
+lookup-arm x c e q = q ∙ ap (λ (u : Lookup.Lookup). told-if number-words (lookup-outcome u)) (sym e)
+
+pub found-arm : (x c : Found) {y : List ℕ} → x ≡ c → y ≡ told-if number-words (lookup-outcome (Lookup.the-variants.Got c)) → y ≡ told-if number-words (lookup-outcome (Lookup.the-variants.Got x))
+found-arm x c e q = q ∙ ap (λ (u : Found). told-if number-words (lookup-outcome (Lookup.the-variants.Got u))) (sym e)
+
+pub ruleset heads = (ordered, joined, header-arm, class-arm, lookup-arm, found-arm, needs)

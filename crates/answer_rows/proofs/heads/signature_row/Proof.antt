@@ -1,0 +1,35 @@
+use Rattle.answer_rows.proofs.Laws.{heads as laws}
+use Rattle.answer_rows.proofs.heads.signature_row.Statement.{statement}
+use Rattle.answer_rows.proofs.heads.signature_row.Tie as tie
+use Rattle.answer_rows.proofs.heads.signature_row.Reads as reads
+use Rattle.answer_rows.proofs.heads.signature_row.Lts as lts
+use Rattle.answer_rows.proofs.words.four.Reads as four-reads
+use Rattle.answer_rows.proofs.words.refused.Reads as refused-reads
+
+-- src/heads.rt:90:31
+enum-known-a : tie.Need-enum-known-a
+enum-known-a c = search laws
+
+-- src/heads.rt:90:37
+refused-requires : tie.Need-refused-requires
+refused-requires c κs = search laws
+
+-- src/heads.rt:91:33
+enum-told : tie.Need-enum-told
+enum-told c = search laws
+
+-- src/heads.rt:91:33
+four-requires : tie.Need-four-requires
+four-requires c κs = search laws
+
+-- src/heads.rt:86:1
+returns : tie.Need-returns
+returns c = search laws
+
+-- src/heads.rt:86:1
+returns-2 : tie.Need-returns-2
+returns-2 c = search laws
+
+pub signature-row-spec : {M : Type 1} → statement M
+signature-row-spec =
+    tie.close (tie.spec enum-known-a refused-requires enum-told four-requires returns returns-2)

@@ -1,0 +1,69 @@
+use Rattle.answer_rows.proofs.MemberLaws.{arms as laws}
+use Rattle.answer_rows.proofs.members.handler_row.Statement.{statement}
+use Rattle.answer_rows.proofs.members.handler_row.Tie as tie
+use Rattle.answer_rows.proofs.members.handler_row.Reads as reads
+use Rattle.answer_rows.proofs.members.handler_row.Lts as lts
+use Rattle.answer_rows.proofs.members.catch_word.Reads as catch-word-reads
+use Rattle.answer_rows.proofs.words.absent.Reads as absent-reads
+use Rattle.answer_rows.proofs.words.four.Reads as four-reads
+use Rattle.answer_rows.proofs.words.refused.Reads as refused-reads
+
+-- src/members.rt:126:46
+enum-known-a : tie.Need-enum-known-a
+enum-known-a c = search laws
+
+-- src/members.rt:126:52
+refused-requires : tie.Need-refused-requires
+refused-requires c κs = search laws
+
+-- src/members.rt:127:48
+enum-told : tie.Need-enum-told
+enum-told c = search laws
+
+-- src/members.rt:127:48
+absent-requires : tie.Need-absent-requires
+absent-requires c κs = search laws
+
+-- src/members.rt:128:44
+enum-known-a-2 : tie.Need-enum-known-a-2
+enum-known-a-2 c = search laws
+
+-- src/members.rt:128:95
+cast-four : tie.Need-cast-four
+cast-four c = search laws
+
+-- src/members.rt:128:109
+catch-word-requires : tie.Need-catch-word-requires
+catch-word-requires c κs = search laws
+
+-- src/members.rt:128:68
+four-requires : tie.Need-four-requires
+four-requires c κs = search laws
+
+-- src/members.rt:122:1
+returns : tie.Need-returns
+returns c = search laws
+
+-- src/members.rt:122:1
+returns-2 : tie.Need-returns-2
+returns-2 c = search laws
+
+-- src/members.rt:122:1
+returns-3 : tie.Need-returns-3
+returns-3 c = search laws
+
+pub handler-row-spec : {M : Type 1} → statement M
+handler-row-spec =
+    tie.close
+    (tie.spec
+    enum-known-a
+    refused-requires
+    enum-told
+    absent-requires
+    enum-known-a-2
+    cast-four
+    catch-word-requires
+    four-requires
+    returns
+    returns-2
+    returns-3)

@@ -1,0 +1,36 @@
+use Rattle.answer_rows.proofs.MemberLaws.{arms as laws}
+use Rattle.answer_rows.proofs.notes.word_row.Statement.{statement}
+use Rattle.answer_rows.proofs.notes.word_row.Tie as tie
+use Rattle.answer_rows.proofs.notes.word_row.Reads as reads
+use Rattle.answer_rows.proofs.notes.word_row.Lts as lts
+use Rattle.answer_rows.proofs.words.one.Reads as one-reads
+use Rattle.answer_rows.proofs.words.refused.Reads as refused-reads
+
+-- src/notes.rt:41:36
+enum-known-a : tie.Need-enum-known-a
+enum-known-a c = search laws
+
+-- src/notes.rt:41:42
+refused-requires : tie.Need-refused-requires
+refused-requires c κs = search laws
+
+-- src/notes.rt:42:32
+enum-known-a-2 : tie.Need-enum-known-a-2
+enum-known-a-2 c = search laws
+
+-- src/notes.rt:42:38
+one-requires : tie.Need-one-requires
+one-requires c κs = search laws
+
+-- src/notes.rt:37:1
+returns : tie.Need-returns
+returns c = search laws
+
+-- src/notes.rt:37:1
+returns-2 : tie.Need-returns-2
+returns-2 c = search laws
+
+pub word-row-spec : {M : Type 1} → statement M
+word-row-spec =
+    tie.close
+    (tie.spec enum-known-a refused-requires enum-known-a-2 one-requires returns returns-2)

@@ -1,0 +1,52 @@
+use Rattle.answer_rows.proofs.Laws.{arms as laws}
+use Rattle.answer_rows.proofs.rows.handle_row.Statement.{statement}
+use Rattle.answer_rows.proofs.rows.handle_row.Tie as tie
+use Rattle.answer_rows.proofs.rows.handle_row.Reads as reads
+use Rattle.answer_rows.proofs.rows.handle_row.Lts as lts
+use Rattle.answer_rows.proofs.words.four.Reads as four-reads
+use Rattle.answer_rows.proofs.words.refused.Reads as refused-reads
+
+-- src/rows.rt:43:36
+enum-known-a : tie.Need-enum-known-a
+enum-known-a c = search laws
+
+-- src/rows.rt:43:42
+refused-requires : tie.Need-refused-requires
+refused-requires c κs = search laws
+
+-- src/rows.rt:44:32
+enum-known-a-2 : tie.Need-enum-known-a-2
+enum-known-a-2 c = search laws
+
+-- src/rows.rt:44:50
+cast-four : tie.Need-cast-four
+cast-four c = search laws
+
+-- src/rows.rt:44:65
+cast-four-2 : tie.Need-cast-four-2
+cast-four-2 c = search laws
+
+-- src/rows.rt:44:38
+four-requires : tie.Need-four-requires
+four-requires c κs = search laws
+
+-- src/rows.rt:39:1
+returns : tie.Need-returns
+returns c = search laws
+
+-- src/rows.rt:39:1
+returns-2 : tie.Need-returns-2
+returns-2 c = search laws
+
+pub handle-row-spec : {M : Type 1} → statement M
+handle-row-spec =
+    tie.close
+    (tie.spec
+    enum-known-a
+    refused-requires
+    enum-known-a-2
+    cast-four
+    cast-four-2
+    four-requires
+    returns
+    returns-2)

@@ -1,0 +1,67 @@
+// Rows of annotations, and of the check.
+use super::words;
+ghost use mathlib.Core.Path.{_≡_};
+ghost use Rattle.refusal.specs.Answers.{checked-outcome};
+ghost use Rattle.annotation_readers.specs.Answers.{directory-outcome};
+ghost use Rattle.annotations.specs.Answers.{entry-outcome as place-outcome, word-outcome, summary-outcome as annotation-outcome};
+ghost use Rattle.answer_rows.specs.Words.{annotation-words, directory-words, no-words, number-words, place-words, told, told-if};
+
+pub fn checked_row(a: refusal::Checked) -> [u64; 20]
+    ensures { λ w. ⌜ w ≡ told no-words (checked-outcome a) ⌝ }
+{
+    match a {
+        refusal::Checked::Refused(r) => words::refused(r),
+        refusal::Checked::Accepted => words::four(0, 0, 0, 0),
+    }
+}
+
+pub fn directory_row(a: annotation_readers::DirectoryAnswer) -> [u64; 20]
+    ensures { λ w. ⌜ w ≡ told-if directory-words (directory-outcome a) ⌝ }
+{
+    match a {
+        annotation_readers::DirectoryAnswer::Refused(r) => words::refused(r),
+        annotation_readers::DirectoryAnswer::Absent => words::absent(),
+        annotation_readers::DirectoryAnswer::Got(h) => words::four(
+            h.set as u64,
+            h.fields as u64,
+            h.methods as u64,
+            h.parameters as u64,
+        ),
+    }
+}
+
+pub fn place_row(a: annotations::EntryAnswer) -> [u64; 20]
+    ensures { λ w. ⌜ w ≡ told place-words (place-outcome a) ⌝ }
+{
+    match a {
+        annotations::EntryAnswer::Refused(r) => words::refused(r),
+        annotations::EntryAnswer::Got { index, offset } => words::four(
+            index as u64,
+            offset as u64,
+            0,
+            0,
+        ),
+    }
+}
+
+pub fn word_row(a: annotations::Word) -> [u64; 20]
+    ensures { λ w. ⌜ w ≡ told number-words (word-outcome a) ⌝ }
+{
+    match a {
+        annotations::Word::Refused(r) => words::refused(r),
+        annotations::Word::Got(n) => words::one(n),
+    }
+}
+
+pub fn annotation_row(a: annotations::SummaryAnswer) -> [u64; 20]
+    ensures { λ w. ⌜ w ≡ told annotation-words (annotation-outcome a) ⌝ }
+{
+    match a {
+        annotations::SummaryAnswer::Refused(r) => words::refused(r),
+        annotations::SummaryAnswer::Got {
+            visibility,
+            type_index,
+            count,
+        } => words::four(visibility as u64, type_index as u64, count as u64, 0),
+    }
+}

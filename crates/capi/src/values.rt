@@ -1,0 +1,54 @@
+// Values by place and by class.
+
+ghost use mathlib.Core.Path.{_≡_};
+ghost use Rattle.value_readers.specs.Values.{arrayOf, arrayValueOf, bodyOf, elementOf, staticCount, staticValue};
+ghost use Rattle.answer_rows.specs.Words.{told, number-words, array-words, body-words, value-words, element-words};
+
+// How many values the array at a place has, and its length in bytes.
+#[no_mangle]
+pub extern "C" fn dralovika_array(f: &[u8], place: usize, out: &mut [u64; 20])
+    ensures { λ _. ⌜ now (out .exit) ≡ told array-words (arrayOf (now (f .entry)) place) ⌝ }
+{
+    *out = answer_rows::array_row(dex::array(f, place));
+}
+
+#[no_mangle]
+pub extern "C" fn dralovika_array_value(f: &[u8], place: usize, k: u32, out: &mut [u64; 20])
+    ensures { λ _. ⌜ now (out .exit) ≡ told value-words (arrayValueOf (now (f .entry)) place k) ⌝ }
+{
+    *out = answer_rows::picked_row(dex::array_value(f, place, k));
+}
+
+// The type and the size of the annotation body at a place, and its length in bytes.
+#[no_mangle]
+pub extern "C" fn dralovika_annotation_body(f: &[u8], place: usize, out: &mut [u64; 20])
+    ensures { λ _. ⌜ now (out .exit) ≡ told body-words (bodyOf (now (f .entry)) place) ⌝ }
+{
+    *out = answer_rows::body_row(dex::annotation_body(f, place));
+}
+
+#[no_mangle]
+pub extern "C" fn dralovika_annotation_body_element(
+    f: &[u8],
+    place: usize,
+    k: u32,
+    out: &mut [u64; 20],
+)
+    ensures { λ _. ⌜ now (out .exit) ≡ told element-words (elementOf (now (f .entry)) place k) ⌝ }
+{
+    *out = answer_rows::element_row(dex::annotation_body_element(f, place, k));
+}
+
+#[no_mangle]
+pub extern "C" fn dralovika_static_value_count(f: &[u8], c: u32, out: &mut [u64; 20])
+    ensures { λ _. ⌜ now (out .exit) ≡ told number-words (staticCount (now (f .entry)) c) ⌝ }
+{
+    *out = answer_rows::size_row(dex::static_value_count(f, c));
+}
+
+#[no_mangle]
+pub extern "C" fn dralovika_static_value(f: &[u8], c: u32, k: u32, out: &mut [u64; 20])
+    ensures { λ _. ⌜ now (out .exit) ≡ told value-words (staticValue (now (f .entry)) c k) ⌝ }
+{
+    *out = answer_rows::picked_row(dex::static_value(f, c, k));
+}
