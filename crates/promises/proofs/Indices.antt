@@ -36,7 +36,7 @@ use Rattle.promises.specs.Tables.{listed}
 use Rattle.promises.specs.Indices.{All, If-there, If-given, String, Kind, Field, Method, BodyIndices, DataIndices, ClassIndices, Indices}
 
 -- ---- what holds of each step holds of each item of a row
-all-none : {A : Type 0} (P : A → Type 0) → All P []
+pub all-none : {A : Type 0} (P : A → Type 0) → All P []
 all-none P k a m = absurd (let z = at-below m in omega arith)
 
 row-all : {A S : Type 0} {Step : S → A → S → Type 0} (P : A → Type 0) → ((s : S) (a : A) (t : S) → Step s a t → P a) → {n : ℕ} {s u : S} {l : List A} → Row Step n s l u → All P l
@@ -44,9 +44,17 @@ row-all P step empty k a m = all-none P k a m
 row-all P step (first h r) k a here = step _ a _ h
 row-all P step (first h r) k a (there m) = row-all P step r _ a m
 
-if-present : {A : Type 0} {Rule : A → Type 0} (P : A → Type 0) → ((a : A) → Rule a → P a) → {at : ℕ} {o : Option A} → Present Rule at o → If-there P o
+pub if-present : {A : Type 0} {Rule : A → Type 0} (P : A → Type 0) → ((a : A) → Rule a → P a) → {at : ℕ} {o : Option A} → Present Rule at o → If-there P o
 if-present P holds (absent e) = tt
 if-present P holds (found-there {a = a} p rule) = holds a rule
+
+-- of two lists whose items of one number go together, the second
+pub alike-all : {A B : Type 0} {Rule : A → B → Type 0} (P : B → Type 0) → ((a : A) (b : B) → Rule a b → P b) → (l : List A) (m : List B) → Alike Rule l m → All P m
+alike-all P holds l m both k b place =
+    let size = both .count in
+    let low = at-below place in
+    let x = at-some l k (omega arith) in
+    holds (x .0) b (both .each (x .1) place)
 
 given-below : (P : ℕ → Type 0) (v count : ℕ) → IndexOrNone v count → (v < count → P v) → If-given P (maybeOf v)
 unfolding maybeOf
@@ -99,11 +107,7 @@ module _ (f : List ℕ) {r : File} (reads : Reads f r) where
       }
 
   bodies-in : {l : List M.Member} {m : List (Option Body)} → Alike (MethodRule (section f (r .header)) (frame-of (r .header) 0)) l m → All (If-there (BodyIndices r)) m
-  bodies-in {l} {m} both k o place =
-      let size = both .count in
-      let low = at-below place in
-      let x = at-some l k (omega arith) in
-      if-present (BodyIndices r) (λ b q. body-in b q) (both .each (x .1) place)
+  bodies-in {l} {m} both = alike-all (If-there (BodyIndices r)) (λ x o rule. if-present (BodyIndices r) (λ b q. body-in b q) rule) l m both
 
   -- ---- class data
   members-in : (j : Judge) (Own : ℕ → Type 0) → ((n : ℕ) → n < j .limit → Own n) → {p count q : ℕ} {l : List M.Member} → ListRule (section f (r .header)) j p count l q → All (λ (m : M.Member). Own (m .index)) l

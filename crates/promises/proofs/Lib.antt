@@ -2,8 +2,9 @@ pub mod Asked
 pub mod Whole
 pub mod Tables
 pub mod Picked
-pub mod Methods
 pub mod Indices
 pub mod Given
+pub mod Ruled
+pub mod Methods
 pub mod Annotations
 pub mod Promises

@@ -1,7 +1,7 @@
 -- On a file of which a reading is known, each reader of class data, code and debug information answers what the reading says.
 -- Assumes nothing.
 use Prim.Native.Nat.{ℕ, zero, suc, _<_}
-use mathlib.Core.Path.{_≡_, refl, ap, sym, _∙_}
+use mathlib.Core.Path.{_≡_, refl, ap, sym, subst, _∙_}
 use mathlib.Core.Option.{Option, none, some}
 use mathlib.Core.List.{List, []}
 use lib.ListN.{length, getD}
@@ -9,8 +9,11 @@ use lib.Dec.{ltb, leb}
 use borrow.Author.Tests.{ne-eqb}
 use native.Mathlib.Omega.{arith}
 use Rattle.refusal.specs.Outcome.{Outcome, answer, refused, _>>=_, given}
-use Rattle.refusal.specs.Exact.{Present, absent, found-there, Alike}
+use Rattle.refusal.specs.Seek.{position}
+use Rattle.refusal.specs.Exact.{Exact, Present, absent, found-there, Alike, Sought}
 use Rattle.refusal.proofs.Laws.{bind-answer, leaves, absent-there, present-there}
+use Rattle.refusal.proofs.Exact.{answer-exact, exact-iff}
+use Rattle.refusal.proofs.Seek.{sought-same}
 use Rattle.refusal.proofs.Rows.{bind-assoc}
 use Rattle.refusal.proofs.Choose.{row-length}
 use Rattle.header.specs.declared.Header.{Header}
@@ -25,10 +28,11 @@ use Rattle.class_data.proofs.Exactly.{data-exact}
 use Rattle.handlers.specs.Handlers.{Handler, nothing, nobody}
 use Rattle.code_item.specs.declared.Outline.{Outline}
 use Rattle.code_item.specs.declared.Try.{Try}
-use Rattle.code_item.specs.Tries.{no-try}
+use Rattle.code_item.specs.Tries.{covers, no-try}
 use Rattle.code_item.specs.Code.{Code, codeAt, outlineAt, coveringOf, tryOf, handed, handlerOf, pairOf}
 use Rattle.code_item.specs.Rules.{CodeRule}
 use Rattle.code_item.proofs.Exactly.{code-exact}
+use Rattle.code_item.proofs.Covering.{covering-sought, covering-once}
 use Rattle.debug_info.specs.Debug.{Debug, extentAt as debugExtent, nameOf}
 use Rattle.debug_info.specs.Rules.{DebugRule}
 use Rattle.debug_info.proofs.Exactly.{debug-exact}
@@ -43,9 +47,10 @@ use Rattle.class_walk.specs.Classes.{ClassBelow}
 use Rattle.class_walk.specs.Rules.{BodyRule, MethodRule, DataBelowRule}
 use Rattle.whole_check.specs.File.{File}
 use Rattle.promises.specs.Reads.{Reads}
-use Rattle.promises.specs.Methods.{bodiesOf, data-of, member-of, body-of, code-of, debug-of, try-of, units-left, MethodReaders}
+use Rattle.promises.specs.Methods.{bodiesOf, data-of, member-of, body-of, code-of, debug-of, try-of, units-left, Covers, MethodReaders}
 use Rattle.promises.proofs.Tables.{headed, class-at}
 use Rattle.promises.proofs.Picked.{onward-then, onward-same, tested, tested-twice, number-part, number-there, picked-alike, picked-refused}
+use Rattle.promises.proofs.Ruled.{code-ruled}
 
 -- what lies at an offset, none exactly where the offset is 0
 spotted : {A C : Type 0} {Rule : A → Type 0} {at : ℕ} {o : Option A} (h : Header) (k : Spot → Outcome (Option C)) (g : A → Outcome (Option C)) → Present Rule at o
@@ -189,7 +194,8 @@ methods-agree f {r} reads =
       units = λ c list k room. code-at f reads c list k (unitsUnder f room) _ (λ at x q. coded s h at x q _ ∙ tested (leb (length (x .units)) room) 19 (length (x .units)) (λ (n : ℕ). answer (some n)));
       units-content = λ c list k out. left f (methodSpot f c list k) out ∙ ap (λ (o : Outcome (Option Code)). units-left o out) (code-at f reads c list k _ (λ (x : Code). answer (some x)) (λ at x q. coded s h at x q _) ∙ onward-same (code-of r c list k));
       try-item = λ c list k t. code-at f reads c list k (tryUnder f t) _ (λ at x q. ap there-is (try-in s h at x q t));
-      covering-try = λ c list k address. code-at f reads c list k (coverUnder f address) _ (λ at x q. coded s h at x q _);
+      covering-try = covering;
+      covering-exactly = λ c list k address e. covered c list k address e;
       handler-count = λ c list k. onward-then (methodSpot f c list k) (outlineUnder f) handlersIn
           ∙ code-at f reads c list k (λ (p : Spot). outlineUnder f p >>= onward handlersIn) _ (λ at x q. ap (λ (o : Outcome Outline). there-is o >>= onward handlersIn) (coded s h at x q _));
       handler = λ c list k n. code-at f reads c list k (handlerUnder f n) _ (λ at x q. ap there-is (handler-in s h at x q n));
@@ -207,3 +213,14 @@ methods-agree f {r} reads =
 
     member : (c list k : ℕ) → memberNumber f c list k ≡ member-of r c list k
     member c list k = data-at f reads c (memberUnder f list k) _ (λ at d q. ap there-is (member-in s h at (d .members) (q .members) list k))
+
+    covering : (c list k address : ℕ) → coveringTry f c list k address ≡ (code-of r c list k >>= onward (λ (x : Code). answer (position (covers address) (x .tries))))
+    covering c list k address = code-at f reads c list k (coverUnder f address) _ (λ at x q. coded s h at x q _)
+
+    covered : {x : Code} (c list k address : ℕ) → code-of r c list k ≡ answer (some x) → Exact (coveringTry f c list k address) (Sought (Covers address) (x .tries))
+    covered {x} c list k address e =
+        let ruled = code-ruled f reads c list k e in
+        let said = covering c list k address ∙ bind-answer (onward (λ (x : Code). answer (position (covers address) (x .tries)))) e in
+        rw said (exact-iff (answer-exact (position (covers address) (x .tries)))
+        (λ o q. subst (Sought (Covers address) (x .tries)) q (covering-sought x address))
+        (λ o q. sought-same (covering-once s h (ruled .0) x (ruled .1) address) (covering-sought x address) q))

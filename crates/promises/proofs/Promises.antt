@@ -20,6 +20,9 @@ use Rattle.promises.specs.Reads.{Reads}
 use Rattle.promises.specs.Promises.{Promises}
 use Rattle.promises.proofs.Whole.{file-exact}
 use Rattle.promises.proofs.Tables.{tables-agree}
+use Rattle.promises.proofs.Methods.{methods-agree}
+use Rattle.promises.proofs.Annotations.{annotations-agree}
+use Rattle.promises.proofs.Given.{readers-answer}
 
 module _ (f : List ℕ) {r : File} (reads : Reads f r) where
   finds : (text : List ℕ) → Exact (findString f text) (Sought (λ (t : Text). t .bytes ≡ text) (r .strings))
@@ -38,6 +41,7 @@ promises f =
       readings-equal = λ {r} {s} p q. same (file-exact f) r s p q;
       strings-distinct = λ {r} p m n e. bytes-distinct f (r .header) (p .strings) m n e;
       types-distinct = λ {r} p m n. I.types-distinct f (frame-of (r .header) 0) (r .header .types .offset) (p .types) m n refl;
-      tables-agree = λ p. tables-agree f p;
+      readers-answer = λ p. readers-answer f p;
+      readers-agree = λ p. record { tables = tables-agree f p; methods = methods-agree f p; annotations = annotations-agree f p };
       lookup-exactly = λ text p. finds f p text;
     }

@@ -1,6 +1,6 @@
 -- What the one reading of a file says to each reader of class data, code and debug information.
 -- `pick k l` is number k of a list, and 7 exactly where there is no such number; none stays none: so each line says that the reader answers, and what.
-use Prim.Native.Nat.{ℕ}
+use Prim.Native.Nat.{ℕ, _+_, _≤_, _<_}
 use mathlib.Core.Path.{_≡_}
 use mathlib.Core.Bool.{false, cond}
 use mathlib.Core.Option.{Option, none, some}
@@ -8,12 +8,14 @@ use mathlib.Core.List.{List, []}
 use lib.ListN.{length}
 use lib.Dec.{leb}
 use Rattle.refusal.specs.Outcome.{Outcome, answer, refused, _>>=_, given}
+use Rattle.refusal.specs.Exact.{Exact, Sought}
 use Rattle.refusal.specs.Seek.{position}
 use Rattle.access_flags.specs.Flags.{written}
 use Rattle.value_bodies.specs.Bodies.{pick}
 use Rattle.class_data.specs.declared.Member.{Member}
 use Rattle.class_data.specs.Data.{counts, one-of-four, listOf}
 use Rattle.code_units.specs.Units.{filled}
+use Rattle.code_item.specs.declared.Try.{Try}
 use Rattle.code_item.specs.Tries.{covers}
 use Rattle.code_item.specs.Code.{Code, outline, Linked, handed}
 use Rattle.debug_info.specs.Debug.{Debug, Extent}
@@ -68,7 +70,11 @@ units-left (answer (some c)) out = cond (leb (length (c .units)) (length out)) (
 units-left (answer none) out = out
 units-left (refused r) out = out
 
-pub record MethodReaders (f : List ℕ) (r : File) : Type 0 where
+-- a try covers an address
+abbrev pub Covers : ℕ → Try → Type 0
+Covers address t = (t .start ≤ address) × (address < t .start + t .count)
+
+pub record MethodReaders (f : List ℕ) (r : File) : Type 1 where
   pub class-data : (c : ℕ) → classData f c ≡ if-any (data-of r c) (λ d. answer (counts (d .members)))
   pub member : (c list k : ℕ) → memberNumber f c list k ≡ member-of r c list k
   pub member-flags : (c list k room : ℕ) → memberFlags f c list k room ≡ if-any (member-of r c list k) (λ m. written false (m .flags) room)
@@ -78,8 +84,9 @@ pub record MethodReaders (f : List ℕ) (r : File) : Type 0 where
   pub units : (c list k room : ℕ) → unitsOf f c list k room ≡ if-any (code-of r c list k) (λ x. given (leb (length (x .units)) room) 19 0 (answer (length (x .units))))
   pub units-content : (c list k : ℕ) (out : List ℕ) → unitsContent f c list k out ≡ units-left (code-of r c list k) out
   pub try-item : (c list k t : ℕ) → tryNumber f c list k t ≡ if-any (code-of r c list k) (try-of t)
-  -- "Asking which try covers an address answers "none" exactly when no try does."
   pub covering-try : (c list k address : ℕ) → coveringTry f c list k address ≡ (code-of r c list k >>= onward (λ (x : Code). answer (position (covers address) (x .tries))))
+  -- "Asking which try covers an address answers "none" exactly when no try does.", and otherwise the one that does
+  pub covering-exactly : {x : Code} (c list k address : ℕ) → code-of r c list k ≡ answer (some x) → Exact (coveringTry f c list k address) (Sought (Covers address) (x .tries))
   pub handler-count : (c list k : ℕ) → handlerCount f c list k ≡ if-any (code-of r c list k) (λ x. answer (length (x .handlers .handlers)))
   pub handler : (c list k h : ℕ) → handlerNumber f c list k h ≡ if-any (code-of r c list k) (λ x. part-of h (x .handlers .handlers) (λ y. answer (handed y)))
   pub handler-pair : (c list k h p : ℕ) → handlerPair f c list k h p ≡ if-any (code-of r c list k) (λ x. part-of h (x .handlers .handlers) (λ y. pick p (y .pairs)))

@@ -10,6 +10,15 @@ use Rattle.table_readers.specs.Strings.{findString}
 use Rattle.whole_check.specs.File.{File, checkAt}
 use Rattle.promises.specs.Reads.{Reads, Obeys}
 use Rattle.promises.specs.Tables.{TableReaders}
+use Rattle.promises.specs.Methods.{MethodReaders}
+use Rattle.promises.specs.Annotations.{AnnotationReaders}
+use Rattle.promises.specs.Given.{ReadersAnswer}
+
+-- every reader, for every number: it answers what the one reading of the file says
+pub record ReadersAgree (f : List ℕ) (r : File) : Type 1 where
+  pub tables : TableReaders f r
+  pub methods : MethodReaders f r
+  pub annotations : AnnotationReaders f r
 
 pub record Promises (f : List ℕ) : Type 1 where
   -- "A file is accepted exactly when header, tables and every reached item obey document 01's rules"
@@ -20,7 +29,9 @@ pub record Promises (f : List ℕ) : Type 1 where
   pub strings-distinct : {r : File} {i j : ℕ} {a b : Text} → Reads f r → At (r .strings) i a → At (r .strings) j b → a .bytes ≡ b .bytes → i ≡ j
   -- ".. no two type numbers the same string."
   pub types-distinct : {r : File} {i j s : ℕ} → Reads f r → At (r .types) i s → At (r .types) j s → i ≡ j
-  -- "Every reader answers for each number and place that the file gives", and answers what the one reading of the file says
-  pub tables-agree : {r : File} → Reads f r → TableReaders f r
+  -- "Every reader answers for each number and place that the file gives."
+  pub readers-answer : {r : File} → Reads f r → ReadersAnswer f r
+  -- .. and what it answers is what the one reading of the file says
+  pub readers-agree : {r : File} → Reads f r → ReadersAgree f r
   -- "Looking up a text answers its number, or none exactly when no string of the table has those bytes"
   pub lookup-exactly : {r : File} (text : List ℕ) → Reads f r → Exact (findString f text) (Sought (λ (t : Text). t .bytes ≡ text) (r .strings))
