@@ -1,4 +1,5 @@
 pub mod Reads
 pub mod Tables
 pub mod Annotations
+pub mod Values
 pub mod Promises
