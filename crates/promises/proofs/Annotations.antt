@@ -194,11 +194,11 @@ module _ (f : List ℕ) {r : File} (reads : Reads f r) where
 
   -- ---- annotations by place
   -- an annotation of the file: it obeys the rules at its place, which lies in the data section
-  record Item-there (a : Item) : Type 0 where
+  pub record Item-there (a : Item) : Type 0 where
     pub rule : ItemRule (section f (r .header)) (frame-of (r .header) (r .map .handles .count)) (a .place) a
     pub allows : Allowed (r .header .start) (r .header .end) false (a .place)
 
-  section-short : length (section f (r .header)) ≤ r .header .end
+  pub section-short : length (section f (r .header)) ≤ r .header .end
   unfolding section
   section-short =
       let size = length-take (r .header .end) f in
@@ -230,30 +230,31 @@ module _ (f : List ℕ) {r : File} (reads : Reads f r) where
   item-below rule (of-method n m) = item-there (rule .methods .each n .below) m
   item-below rule (of-parameter n i m) = item-listed (rule .parameters .each n .below .sets .each i) m
 
-  item-in : {a : Item} → ItemIn r a → Item-there a
+  pub item-in : {a : Item} → ItemIn r a → Item-there a
   item-in {a} i = go (subst (Directory-there f (r .header) (r .map .handles .count) (i .class .own .directory)) (i .directory-is) (reads .classes .each (i .class-is) .annotations))
     where
       go : {at : ℕ} → Directory-there f (r .header) (r .map .handles .count) at (some (i .directory)) → Item-there a
       go (found-there p rule) = item-below rule (i .item-of)
 
-  opened : openedAt f ≡ answer (record { header = r .header; handles = r .map .handles .count })
+  pub opened : openedAt f ≡ answer (record { header = r .header; handles = r .map .handles .count })
   unfolding openedAt mappedAt
   opened = headed f reads _ ∙ bind-answer _ (mapped f reads)
+
+  -- a place in the data section passes: "7: .. or a body place outside the data section"
+  pub place-passes : {B : Type 0} {x : ℕ} → Allowed (r .header .start) (r .header .end) false x → (rest : Outcome B) → given (allowed (r .header .start) (r .header .end) false x) 7 0 rest ≡ rest
+  place-passes {x = x} a rest = sym (passes 7 0 (allowed-decides (r .header .start) (r .header .end) false x .complete a) refl)
 
   module _ {a : Item} (i : ItemIn r a) where
     item-read : itemAt (section f (r .header)) (frame-of (r .header) (r .map .handles .count)) (a .place) ≡ answer a
     item-read = item-exact (section f (r .header)) (frame-of (r .header) (r .map .handles .count)) (a .place) .complete a (item-in i .rule)
 
-    item-asked : {B : Type 0} (rest : Outcome B) → given (allowed (r .header .start) (r .header .end) false (a .place)) 7 0 rest ≡ rest
-    item-asked rest = sym (passes 7 0 (allowed-decides (r .header .start) (r .header .end) false (a .place) .complete (item-in i .allows)) refl)
-
     summary-read : I.annotationOf f (a .place) ≡ answer (summary-of a)
     unfolding I.annotationOf I.annotationUnder itemSummary
-    summary-read = bind-answer _ opened ∙ item-asked _ ∙ bind-answer _ item-read
+    summary-read = bind-answer _ opened ∙ place-passes (item-in i .allows) _ ∙ bind-answer _ item-read
 
     element-read : (k : ℕ) → I.elementOf f (a .place) k ≡ (pick k (a .annotation .elements) >>= λ (n : Named). answer (element-shown n))
     unfolding I.elementOf I.elementUnder itemElement
-    element-read k = bind-answer _ opened ∙ item-asked _ ∙ bind-answer _ item-read
+    element-read k = bind-answer _ opened ∙ place-passes (item-in i .allows) _ ∙ bind-answer _ item-read
 
 pub annotations-agree : (f : List ℕ) {r : File} → Reads f r → AnnotationReaders f r
 unfolding D.directory D.entryOf S.countOf S.placeOf S.classSet S.parameterSet S.parameterSetCount

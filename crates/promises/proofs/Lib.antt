@@ -7,4 +7,5 @@ pub mod Given
 pub mod Ruled
 pub mod Methods
 pub mod Annotations
+pub mod Values
 pub mod Promises

@@ -4,4 +4,5 @@ pub mod Methods
 pub mod Indices
 pub mod Given
 pub mod Annotations
+pub mod Values
 pub mod Promises
