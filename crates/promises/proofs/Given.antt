@@ -28,6 +28,8 @@ use Rattle.promises.specs.Methods.{if-any, data-of, member-of, body-of, 
 use Rattle.promises.specs.Given.{Counts, BodyAt, ReadersAnswer}
 use Rattle.promises.proofs.Tables.{tables-agree}
 use Rattle.promises.proofs.Methods.{methods-agree}
+use Rattle.promises.proofs.Annotations.{annotations-agree}
+use Rattle.promises.proofs.Values.{values-agree}
 use Rattle.promises.proofs.Indices.{indices}
 
 -- a part of what is there
@@ -65,6 +67,8 @@ pub readers-answer : (f : List ℕ) {r : File} → Reads f r → ReadersAnswer f
 readers-answer f {r} reads =
     let tables = tables-agree f reads in
     let methods = methods-agree f reads in
+    let notes = annotations-agree f reads in
+    let values = values-agree f reads in
     record {
       counts = record {
         strings = reads .strings .each .count;
@@ -96,4 +100,18 @@ readers-answer f {r} reads =
       class-flags = λ n room {c} m p. tables .class-flags n room ∙ bind-answer _ (pick-there m) ∙ flags-fit true (c .own .flags) room p;
       member-flags = λ c list k room {m = x} m e q p. methods .member-flags c list k room ∙ if-some _ _ (member-there r c list k m e q) (flags-fit false (x .flags) room p);
       units = λ c list k room b p. methods .units c list k room ∙ if-some _ _ (code-there r c list k b) (enough _ room p);
+      field-entry = λ c e m q. notes .field-entry c e ∙ bind-answer _ (pick-there m) ∙ bind-answer _ (pick-there q);
+      method-entry = λ c e m q. notes .method-entry c e ∙ bind-answer _ (pick-there m) ∙ bind-answer _ (pick-there q);
+      parameter-entry = λ c e m q. notes .parameter-entry c e ∙ bind-answer _ (pick-there m) ∙ bind-answer _ (pick-there q);
+      class-place = λ c k m q. notes .class-place c k ∙ bind-answer _ (pick-there m) ∙ bind-answer _ (pick-there q);
+      field-place = λ c e k m u q. notes .field-place c e k ∙ bind-answer _ (pick-there m) ∙ bind-answer _ (pick-there u) ∙ bind-answer _ (pick-there q);
+      method-place = λ c e k m u q. notes .method-place c e k ∙ bind-answer _ (pick-there m) ∙ bind-answer _ (pick-there u) ∙ bind-answer _ (pick-there q);
+      parameter-place = λ c e p k m u l q. notes .parameter-place c e p k ∙ bind-answer _ (pick-there m) ∙ bind-answer _ (pick-there u) ∙ bind-answer _ (pick-there l) ∙ bind-answer _ (pick-there q);
+      annotation-item = λ i. notes .annotation i;
+      element = λ k i q. notes .element i k ∙ bind-answer _ (pick-there q);
+      static-value = λ c k m q. values .static-value c k ∙ bind-answer _ (pick-there m) ∙ bind-answer _ (pick-there q);
+      array-size = λ p q vs i. values .array-size vs i;
+      array-value = λ p q k vs i m. values .array-value vs i k ∙ bind-answer _ (pick-there m);
+      body-size = λ p q t es i. values .body-size es i;
+      body-element = λ p q t k es i m. values .body-element es i k ∙ bind-answer _ (pick-there m);
     }

@@ -3,9 +3,9 @@ pub mod Whole
 pub mod Tables
 pub mod Picked
 pub mod Indices
-pub mod Given
 pub mod Ruled
 pub mod Methods
 pub mod Annotations
 pub mod Values
+pub mod Given
 pub mod Promises

@@ -1,6 +1,6 @@
 -- "The numbers and places that a file gives .. are the indices tested by 11, table and list numbers below their counts, body offsets tested by 8, and nested bodies' offsets."
 -- Each reader answers for each of them, asked for as the kind it is given as. `At l k a` says that number k of the list is a; below a list's length each number is.
-use Prim.Native.Nat.{ℕ, _≤_}
+use Prim.Native.Nat.{ℕ, _-_, _≤_}
 use mathlib.Core.Path.{_≡_}
 use mathlib.Core.Bool.{true, false}
 use mathlib.Core.Option.{Option, some}
@@ -20,6 +20,10 @@ use Rattle.handlers.specs.Handlers.{Handler}
 use Rattle.code_item.specs.declared.Try.{Try}
 use Rattle.code_item.specs.Code.{outline, handed}
 use Rattle.debug_info.specs.Debug.{Debug}
+use Rattle.encoded_value.specs.Tree.{Named, Tree, array, annotation, trees, elements-of}
+use Rattle.decoded_value.specs.Shown.{shown}
+use Rattle.annotations.specs.Items.{Item}
+use Rattle.annotation_walk.specs.Below.{Under}
 use Rattle.table_readers.specs.Head.{mapEntry}
 use Rattle.table_readers.specs.Strings.{stringNumber}
 use Rattle.table_readers.specs.Tables.{typeName, protoOf, fieldOf, methodOf, classOf, handleOf}
@@ -28,12 +32,19 @@ use Rattle.table_readers.specs.Flags.{classFlags}
 use Rattle.class_readers.specs.Members.{memberNumber, memberFlags}
 use Rattle.class_readers.specs.Code.{codeOf, unitsOf, tryNumber, handlerNumber, handlerPair}
 use Rattle.class_readers.specs.Debug.{debugOf, parameterName}
+use Rattle.annotation_readers.specs.Directories.{entryOf}
+use Rattle.annotation_readers.specs.Sets.{classSet, entrySet, parameterSet, placeOf}
+use Rattle.annotation_readers.specs.Items.{annotationOf}
+use Rattle.annotation_readers.specs.Items as A
+use Rattle.value_readers.specs.Values.{arrayOf, arrayValueOf, bodyOf, elementOf, staticValue}
 use Rattle.class_walk.specs.Methods.{Body, DataBelow}
 use Rattle.class_walk.specs.Classes.{ClassBelow}
 use Rattle.whole_check.specs.File.{ProtoBelow, File}
 use Rattle.promises.specs.Tables.{listed}
 use Rattle.promises.specs.Methods.{bodiesOf, extent-of}
 use Rattle.promises.specs.Indices.{Indices}
+use Rattle.promises.specs.Annotations.{under, entry-of, summary-of, element-shown, ItemIn}
+use Rattle.promises.specs.Values.{ValueIn}
 
 -- the table numbers below the header's and the map's counts are the numbers of the lists
 pub record Counts (r : File) : Type 0 where
@@ -80,3 +91,22 @@ pub record ReadersAnswer (f : List ℕ) (r : File) : Type 0 where
   pub member-flags : (c list k room : ℕ) {b : ClassBelow} {d : DataBelow} {m : M.Member} → At (r .classes) c b → b .members ≡ some d → At (listOf list (d .members)) k m
       → length (flags false (m .flags)) ≤ room → memberFlags f c list k room ≡ answer (some (length (flags false (m .flags))))
   pub units : (c list k room : ℕ) {b : Body} → BodyAt r c list k b → length (b .code .units) ≤ room → unitsOf f c list k room ≡ answer (some (length (b .code .units)))
+  -- ---- annotations: entries by number, and the places that lead to annotation items
+  pub field-entry : (c e : ℕ) {b : ClassBelow} {u : Under (List Item)} → At (r .classes) c b → At (under (λ d. d .fields) (b .annotations)) e u → entryOf f c 0 e ≡ answer (entry-of u)
+  pub method-entry : (c e : ℕ) {b : ClassBelow} {u : Under (List Item)} → At (r .classes) c b → At (under (λ d. d .methods) (b .annotations)) e u → entryOf f c 1 e ≡ answer (entry-of u)
+  pub parameter-entry : (c e : ℕ) {b : ClassBelow} {u : Under (List (Option (List Item)))} → At (r .classes) c b → At (under (λ d. d .parameters) (b .annotations)) e u → entryOf f c 2 e ≡ answer (entry-of u)
+  pub class-place : (c k : ℕ) {b : ClassBelow} {a : Item} → At (r .classes) c b → At (under (λ d. listed (d .own)) (b .annotations)) k a → placeOf f (classSet f c) k ≡ answer (a .place)
+  pub field-place : (c e k : ℕ) {b : ClassBelow} {u : Under (List Item)} {a : Item} → At (r .classes) c b → At (under (λ d. d .fields) (b .annotations)) e u → At (u .below) k a
+      → placeOf f (entrySet f c 0 e) k ≡ answer (a .place)
+  pub method-place : (c e k : ℕ) {b : ClassBelow} {u : Under (List Item)} {a : Item} → At (r .classes) c b → At (under (λ d. d .methods) (b .annotations)) e u → At (u .below) k a
+      → placeOf f (entrySet f c 1 e) k ≡ answer (a .place)
+  pub parameter-place : (c e p k : ℕ) {b : ClassBelow} {u : Under (List (Option (List Item)))} {l : Option (List Item)} {a : Item} → At (r .classes) c b
+      → At (under (λ d. d .parameters) (b .annotations)) e u → At (u .below) p l → At (listed l) k a → placeOf f (parameterSet f c e p) k ≡ answer (a .place)
+  pub annotation-item : {a : Item} → ItemIn r a → annotationOf f (a .place) ≡ answer (summary-of a)
+  pub element : (k : ℕ) {a : Item} {n : Named} → ItemIn r a → At (a .annotation .elements) k n → A.elementOf f (a .place) k ≡ answer (element-shown n)
+  -- ---- static values by number, and "nested bodies' offsets" at any depth
+  pub static-value : (c k : ℕ) {b : ClassBelow} {v : Tree} → At (r .classes) c b → At (listed (b .values)) k v → staticValue f c k ≡ answer (shown v)
+  pub array-size : (p q : ℕ) (vs : List Tree) → ValueIn r (array p q (trees vs)) → arrayOf f p ≡ answer (record { count = length vs; length = q - p })
+  pub array-value : (p q k : ℕ) (vs : List Tree) {v : Tree} → ValueIn r (array p q (trees vs)) → At vs k v → arrayValueOf f p k ≡ answer (shown v)
+  pub body-size : (p q t : ℕ) (es : List Named) → ValueIn r (annotation p q t (elements-of es)) → bodyOf f p ≡ answer (record { type-index = t; count = length es; length = q - p })
+  pub body-element : (p q t k : ℕ) (es : List Named) {n : Named} → ValueIn r (annotation p q t (elements-of es)) → At es k n → elementOf f p k ≡ answer (element-shown n)

@@ -2,7 +2,7 @@ pub mod Reads
 pub mod Tables
 pub mod Methods
 pub mod Indices
-pub mod Given
 pub mod Annotations
 pub mod Values
+pub mod Given
 pub mod Promises

@@ -12,6 +12,7 @@ use Rattle.promises.specs.Reads.{Reads, Obeys}
 use Rattle.promises.specs.Tables.{TableReaders}
 use Rattle.promises.specs.Methods.{MethodReaders}
 use Rattle.promises.specs.Annotations.{AnnotationReaders}
+use Rattle.promises.specs.Values.{ValueReaders}
 use Rattle.promises.specs.Given.{ReadersAnswer}
 
 -- every reader, for every number: it answers what the one reading of the file says
@@ -19,6 +20,7 @@ pub record ReadersAgree (f : List ℕ) (r : File) : Type 1 where
   pub tables : TableReaders f r
   pub methods : MethodReaders f r
   pub annotations : AnnotationReaders f r
+  pub values : ValueReaders f r
 
 pub record Promises (f : List ℕ) : Type 1 where
   -- "A file is accepted exactly when header, tables and every reached item obey document 01's rules"
