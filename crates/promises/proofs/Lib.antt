@@ -3,4 +3,5 @@ pub mod Whole
 pub mod Tables
 pub mod Annotations
 pub mod Values
+pub mod ValueIndices
 pub mod Promises

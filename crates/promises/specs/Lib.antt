@@ -2,4 +2,5 @@ pub mod Reads
 pub mod Tables
 pub mod Annotations
 pub mod Values
+pub mod ValueIndices
 pub mod Promises
