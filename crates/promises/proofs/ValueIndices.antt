@@ -2,7 +2,7 @@
 -- Assumes nothing.
 use Prim.Native.Nat.{ℕ, zero, suc, _+_, _*_, _%_, _/_, _<_, _≤_}
 use mathlib.Core.Path.{_≡_, refl, ap, sym, subst, _∙_}
-use mathlib.Core.Logic.{_⊎_, ⊎-elim}
+use mathlib.Core.Logic.{⊎-elim}
 use mathlib.Core.Bool.{Bool, true, false, cond, _&&_, _||_, false≢true}
 use mathlib.Core.Option.{Option}
 use mathlib.Core.List.{List}
@@ -21,7 +21,6 @@ use Rattle.encoded_value.specs.Rules.{KindWith, an-array, an-annotation, no-bod
 use Rattle.encoded_value.proofs.Bounds.{named-with-extent, value-extent}
 use Rattle.annotations.specs.Fixed.{Fixed}
 use Rattle.annotations.specs.Directories.{Entry}
-use Rattle.annotations.specs.Items.{Item}
 use Rattle.annotations.specs.Rules.{EntryRule}
 use Rattle.annotation_walk.specs.Below.{Under, Annotated}
 use Rattle.annotation_walk.specs.Rules.{EntryBelow, DirectoryBelow}
