@@ -93,7 +93,7 @@ module _ (f : List ℕ) (h : Header) (handles : ℕ) where
         (λ x o m n. bind-answer k refl ∙ same x o (subst (λ (y : ℕ). Set-there y o) (rule .rule .offsets .entries .each m .stands) (rule .sets .each n)))
 
   -- ---- directories
-  abbrev Directory-there : ℕ → Option Annotated → Type 0
+  abbrev pub Directory-there : ℕ → Option Annotated → Type 0
   Directory-there at o = Present (DirectoryBelow (section f h) (frame-of h handles) at) at o
 
   directory-read : {at : ℕ} {a : Annotated} (rule : DirectoryBelow (section f h) (frame-of h handles) at a) → directoryAt (section f h) (frame-of h 0) at ≡ answer (rule .directory)

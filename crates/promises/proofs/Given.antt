@@ -31,6 +31,7 @@ use Rattle.promises.proofs.Methods.{methods-agree}
 use Rattle.promises.proofs.Annotations.{annotations-agree}
 use Rattle.promises.proofs.Values.{values-agree}
 use Rattle.promises.proofs.Indices.{indices}
+use Rattle.promises.proofs.ValueIndices.{value-indices}
 
 -- a part of what is there
 if-some : {A B : Type 0} (o : Outcome (Option A)) {a : A} (g : A → Outcome B) {b : B} → o ≡ answer (some a) → g a ≡ answer b → if-any o g ≡ answer (some b)
@@ -80,6 +81,7 @@ readers-answer f {r} reads =
         classes = reads .classes .count;
       };
       indices = indices f reads;
+      value-indices = value-indices f reads;
       map-entry = λ k m. tables .map-entry k ∙ pick-there m;
       string = λ n m. tables .string-bytes n ∙ pick-there m;
       type-name = λ n s m. tables .type-name n ∙ pick-there m;

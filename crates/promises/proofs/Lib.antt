@@ -7,5 +7,6 @@ pub mod Ruled
 pub mod Methods
 pub mod Annotations
 pub mod Values
+pub mod ValueIndices
 pub mod Given
 pub mod Promises

@@ -1,6 +1,6 @@
 -- On a file of which a reading is known, each reader of values answers what the reading says.
 -- Assumes nothing.
-use Prim.Native.Nat.{ℕ, _-_, _<_, _≤_}
+use Prim.Native.Nat.{ℕ, _+_, _-_, _<_, _≤_}
 use mathlib.Core.Path.{_≡_, refl, ap, sym, subst, _∙_}
 use mathlib.Core.Logic.{inl, inr}
 use mathlib.Core.Bool.{false, false≢true}
@@ -25,6 +25,7 @@ use Rattle.encoded_value.proofs.Bounds.{Extent, Ends, uleb-extent, named-with-e
 use Rattle.encoded_value.proofs.Nested.{nested-array, nested-annotation}
 use Rattle.decoded_value.specs.Shown.{shown}
 use Rattle.value_bodies.specs.Bodies.{pick, arrayCount, arrayValue, annotationNoted, annotationElement}
+use Rattle.annotations.specs.Items.{Item}
 use Rattle.class_ids.specs.declared.Class.{Class}
 use Rattle.class_ids.specs.Rules.{ClassRule}
 use Rattle.value_readers.specs.Values as R
@@ -33,7 +34,7 @@ use Rattle.class_walk.specs.Rules.{ValuesRule}
 use Rattle.whole_check.specs.File.{File}
 use Rattle.promises.specs.Reads.{Reads}
 use Rattle.promises.specs.Tables.{listed}
-use Rattle.promises.specs.Annotations.{element-shown}
+use Rattle.promises.specs.Annotations.{element-shown, ItemIn}
 use Rattle.promises.specs.Values.{ValueIn, a-static, of-item, in-array, in-annotation, TopArray, ValueReaders}
 use Rattle.promises.proofs.Asked.{pick-empty}
 use Rattle.promises.proofs.Tables.{class-at}
@@ -59,7 +60,7 @@ elements-back [] = refl
 elements-back (e ∷ es) = ap (λ (l : List Named). e ∷ l) (elements-back es)
 
 -- ---- number k of a row stands at a place no earlier than the row's
-row-at : {A : Type 0} {s : List ℕ} {P : ℕ → A → ℕ → Type 0} {n p q k : ℕ} {l : List A} {a : A} → Ends s P → Row P n p l q → At l k a → (x y : ℕ) × (P x a y × (p ≤ x))
+pub row-at : {A : Type 0} {s : List ℕ} {P : ℕ → A → ℕ → Type 0} {n p q k : ℕ} {l : List A} {a : A} → Ends s P → Row P n p l q → At l k a → (x y : ℕ) × (P x a y × (p ≤ x))
 row-at ends (first {s = p} {t = t} h r) here = (p, t, (h, omega arith))
 row-at ends (first {a = b} {s = p} {t = t} h r) (there m) =
     let i = row-at ends r m in
@@ -68,7 +69,7 @@ row-at ends (first {a = b} {s = p} {t = t} h r) (there m) =
     (i .0, i .1, (i .2 .0, omega arith))
 
 module _ (f : List ℕ) {r : File} (reads : Reads f r) where
-  abbrev walk : ℕ → Walk
+  abbrev pub walk : ℕ → Walk
   walk item = walkOf (frame-of (r .header) (r .map .handles .count)) item
 
   -- ---- a body that stands in the data section, as an item of its own
@@ -122,7 +123,7 @@ module _ (f : List ℕ) {r : File} (reads : Reads f r) where
         low = omega arith;
       }
 
-  body-of : {p q t : ℕ} (es : List Named) → Value-there (annotation p q t (elements-of es)) → Body-there p p q (record { type-index = t; elements = es })
+  pub body-of : {p q t : ℕ} (es : List Named) → Value-there (annotation p q t (elements-of es)) → Body-there p p q (record { type-index = t; elements = es })
   body-of {p} {q} {t} es v =
       let i = nested-annotation (section f (r .header)) (walk (v .item)) (v .left) (v .shallow) (v .place) (v .ends) p q t (elements-of es) (v .rule) in
       let l = v .low in
@@ -155,12 +156,15 @@ module _ (f : List ℕ) {r : File} (reads : Reads f r) where
   static-value-there low (found-there p rule) m = value-of-array (static-there low (found-there p rule) .1) m
 
   -- ---- each value of the file stands in it
-  value-in : {v : Tree} → ValueIn r v → Value-there v
-  value-in (a-static n m) = static-value-there (λ p. statics-low n p) (reads .classes .each n .values) m
-  value-in (of-item {a = a} i m) =
+  pub item-body : {a : Item} → ItemIn r a → (e : ℕ) × Body-there (a .place) (a .place + 1) e (a .annotation)
+  item-body i =
       let rule = item-in f reads i .rule in
       let l = item-in f reads i .allows .from in
-      value-of-body {item = a .place} (record { body = rule .body; low = omega arith }) m
+      (rule .ends, record { body = rule .body; low = omega arith })
+
+  pub value-in : {v : Tree} → ValueIn r v → Value-there v
+  value-in (a-static n m) = static-value-there (λ p. statics-low n p) (reads .classes .each n .values) m
+  value-in (of-item i m) = value-of-body (item-body i .1) m
   value-in (in-array {vs = vs} i m) = value-of-array (array-of vs (value-in i)) m
   value-in (in-annotation {es = es} i m) = value-of-body (body-of es (value-in i)) m
 

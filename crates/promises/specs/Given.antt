@@ -45,6 +45,7 @@ use Rattle.promises.specs.Methods.{bodiesOf, extent-of}
 use Rattle.promises.specs.Indices.{Indices}
 use Rattle.promises.specs.Annotations.{under, entry-of, summary-of, element-shown, ItemIn}
 use Rattle.promises.specs.Values.{ValueIn}
+use Rattle.promises.specs.ValueIndices.{ValueIndices}
 
 -- the table numbers below the header's and the map's counts are the numbers of the lists
 pub record Counts (r : File) : Type 0 where
@@ -67,6 +68,7 @@ pub record BodyAt (r : File) (c list k : ℕ) (b : Body) : Type 0 where
 pub record ReadersAnswer (f : List ℕ) (r : File) : Type 0 where
   pub counts : Counts r
   pub indices : Indices r
+  pub value-indices : ValueIndices r
   -- ---- table numbers
   pub map-entry : (k : ℕ) {e : Entry} → At (r .map .entries) k e → mapEntry f k ≡ answer e
   pub string : (n : ℕ) {t : Text} → At (r .strings) n t → stringNumber f n ≡ answer t

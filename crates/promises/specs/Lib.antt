@@ -4,5 +4,6 @@ pub mod Methods
 pub mod Indices
 pub mod Annotations
 pub mod Values
+pub mod ValueIndices
 pub mod Given
 pub mod Promises
