@@ -145,4 +145,5 @@ def line(name, data):
     return f'{name}: {looked_up(f, text)}' + ''.join(asked(f, n) for n in range(count + 1))
 
 
-write('string_run', [(f'{name}, {o}', bytes([len(text)]) + text + f) for o in ('little', 'big') for name, text, f in cases(o)], line)
+if __name__ == '__main__':
+    write('string_run', [(f'{name}, {o}', bytes([len(text)]) + text + f) for o in ('little', 'big') for name, text, f in cases(o)], line)

@@ -44,7 +44,7 @@ row-extent f i (first {a = a} {s = p} {t = t} h r) =
     (omega arith, k .1)
 
 module _ (s : List ℕ) (w : Walk) where
-  uleb-extent : {p : ℕ} {r : Found ℕ ℕ} → Uleb s p r → Extent s p (r .next)
+  pub uleb-extent : {p : ℕ} {r : Found ℕ ℕ} → Uleb s p r → Extent s p (r .next)
   uleb-extent {p} {r} h = let e = uleb-span s 0 p (uleb-exact s 0 p .complete r h) in record { after-place = e .after-place; inside = e .inside }
 
   module _ {Element : ℕ → Tree → ℕ → Type 0} (extent : Ends s Element) where
@@ -56,7 +56,7 @@ module _ (s : List ℕ) (w : Walk) where
         let c = t .0 in
         record { after-place = omega arith; inside = t .1 }
 
-    named-with-extent : Ends s (NamedWith s w Element)
+    pub named-with-extent : Ends s (NamedWith s w Element)
     named-with-extent p v q h =
         let a = uleb-extent (h .name-is .uleb) .after-place in
         let e = extent _ _ q (h .value-is) in

@@ -1,6 +1,6 @@
 -- Laws of the rules: what obeys them with so many bodies obeys them with more, and for another item, so that a nested body can be asked for by place.
 -- Assumes nothing.
-use Prim.Native.Nat.{ℕ, zero, suc, _%_, _/_, _≤_}
+use Prim.Native.Nat.{ℕ, zero, suc, _+_, _%_, _/_, _≤_}
 use mathlib.Core.Path.{_≡_, refl, ap, sym, _∙_}
 use mathlib.Core.Bool.{Bool, true, false, cond, false≢true}
 use mathlib.Core.List.{List}
@@ -92,29 +92,29 @@ plain-flat code argument x = simp (flat-cond, cond-same)
 
 module _ (s : List ℕ) (w : Walk) where
   module _ {B : ℕ → List Tree → ℕ → Type 0} {M : ℕ → Annotation → ℕ → Type 0} where
-    array-inside : {h p q a e : ℕ} {ts : Trees} → KindWith s w B M h p (array a e ts) q → (vs : List Tree) × ((trees vs ≡ ts) × B a vs e)
-    array-inside (an-array {vs = vs} c k) = (vs, (refl, k))
+    array-inside : {h p q a e : ℕ} {ts : Trees} → KindWith s w B M h p (array a e ts) q → (vs : List Tree) × ((trees vs ≡ ts) × B a vs e × (p ≡ a))
+    array-inside (an-array {vs = vs} c k) = (vs, (refl, k, refl))
     array-inside {h = h} (no-body n m k) = absurd (false≢true (sym (ap is-flat (k .value)) ∙ plain-flat (h % 32) (h / 32) (k .number)))
 
-    annotation-inside : {h p q a e t : ℕ} {es : Elements} → KindWith s w B M h p (annotation a e t es) q → (v : Annotation) × ((v .type-index ≡ t) × (elements-of (v .elements) ≡ es) × M a v e)
-    annotation-inside (an-annotation {a = v} c k) = (v, (refl, refl, k))
+    annotation-inside : {h p q a e t : ℕ} {es : Elements} → KindWith s w B M h p (annotation a e t es) q → (v : Annotation) × ((v .type-index ≡ t) × (elements-of (v .elements) ≡ es) × M a v e × (p ≡ a))
+    annotation-inside (an-annotation {a = v} c k) = (v, (refl, refl, k, refl))
     annotation-inside {h = h} (no-body n m k) = absurd (false≢true (sym (ap is-flat (k .value)) ∙ plain-flat (h % 32) (h / 32) (k .number)))
 
-  -- a nested body obeys the rules at its own place as an item of its own, at depth 1
+  -- a nested body stands behind its head byte, and obeys the rules at its own place as an item of its own, at depth 1
   module _ (left : ℕ) (l : left ≤ 64) (p q a e : ℕ) where
-    pub nested-array : (ts : Trees) → Value s w left p (array a e ts) q → (vs : List Tree) × ((trees vs ≡ ts) × ArrayBody s (moved w a) 64 a vs e)
+    pub nested-array : (ts : Trees) → Value s w left p (array a e ts) q → (vs : List Tree) × ((trees vs ≡ ts) × ArrayBody s (moved w a) 64 a vs e × (p + 1 ≡ a))
     unfolding Value ArrayBody
     nested-array ts h = go left l h
       where
-        go : (n : ℕ) → n ≤ 64 → Value s w n p (array a e ts) q → (vs : List Tree) × ((trees vs ≡ ts) × ArrayBody s (moved w a) 64 a vs e)
+        go : (n : ℕ) → n ≤ 64 → Value s w n p (array a e ts) q → (vs : List Tree) × ((trees vs ≡ ts) × ArrayBody s (moved w a) 64 a vs e × (p + 1 ≡ a))
         go zero b k = let i = array-inside (k .kind-is) in absurd (i .1 .1)
-        go (suc n) b k = let i = array-inside (k .kind-is) in (i .0, (i .1 .0, array-deeper s w a (suc n) 64 b a (i .0) e (i .1 .1)))
+        go (suc n) b k = let i = array-inside (k .kind-is) in (i .0, (i .1 .0, array-deeper s w a (suc n) 64 b a (i .0) e (i .1 .1), i .1 .2))
 
     pub nested-annotation : (t : ℕ) (es : Elements) → Value s w left p (annotation a e t es) q
-        → (v : Annotation) × ((v .type-index ≡ t) × (elements-of (v .elements) ≡ es) × AnnotationBody s (moved w a) 64 a v e)
+        → (v : Annotation) × ((v .type-index ≡ t) × (elements-of (v .elements) ≡ es) × AnnotationBody s (moved w a) 64 a v e × (p + 1 ≡ a))
     unfolding Value AnnotationBody
     nested-annotation t es h = go left l h
       where
-        go : (n : ℕ) → n ≤ 64 → Value s w n p (annotation a e t es) q → (v : Annotation) × ((v .type-index ≡ t) × (elements-of (v .elements) ≡ es) × AnnotationBody s (moved w a) 64 a v e)
+        go : (n : ℕ) → n ≤ 64 → Value s w n p (annotation a e t es) q → (v : Annotation) × ((v .type-index ≡ t) × (elements-of (v .elements) ≡ es) × AnnotationBody s (moved w a) 64 a v e × (p + 1 ≡ a))
         go zero b k = let i = annotation-inside (k .kind-is) in absurd (i .1 .2)
-        go (suc n) b k = let i = annotation-inside (k .kind-is) in (i .0, (i .1 .0, i .1 .1, annotation-deeper s w a (suc n) 64 b a (i .0) e (i .1 .2)))
+        go (suc n) b k = let i = annotation-inside (k .kind-is) in (i .0, (i .1 .0, i .1 .1, annotation-deeper s w a (suc n) 64 b a (i .0) e (i .1 .2), i .1 .3))

@@ -1,0 +1,12 @@
+pub mod Asked
+pub mod Whole
+pub mod Tables
+pub mod Picked
+pub mod Indices
+pub mod Ruled
+pub mod Methods
+pub mod Annotations
+pub mod Values
+pub mod ValueIndices
+pub mod Given
+pub mod Promises

@@ -1,0 +1,9 @@
+pub mod Reads
+pub mod Tables
+pub mod Methods
+pub mod Indices
+pub mod Annotations
+pub mod Values
+pub mod ValueIndices
+pub mod Given
+pub mod Promises

@@ -1,0 +1,35 @@
+use Rattle.report.proofs.Laws.{accepted-laws as laws}
+use Rattle.report.specs.Lines.{accepted-lines}
+use Rattle.report.proofs.put_accepted.Statement.{statement}
+use Rattle.report.proofs.put_accepted.Tie as tie
+use Rattle.report.proofs.put_accepted.Reads as reads
+use Rattle.report.proofs.put_accepted.Lts as lts
+use Rattle.report.proofs.put_members.Reads as put-members-reads
+use Rattle.report.proofs.put_names.Reads as put-names-reads
+use Rattle.report.proofs.put_top.Reads as put-top-reads
+
+-- src/lib.rt:156:9
+put-top-requires : tie.Need-put-top-requires
+put-top-requires c κs = search laws
+
+-- src/lib.rt:157:9
+put-names-requires : tie.Need-put-names-requires
+put-names-requires c κs = search laws
+
+-- src/lib.rt:158:5
+put-members-requires : tie.Need-put-members-requires
+put-members-requires c κs = search laws
+
+-- src/lib.rt:151:1
+same-length : tie.Need-same-length
+same-length c = search laws
+
+-- src/lib.rt:151:1
+returns : tie.Need-returns
+unfolding accepted-lines
+returns c = search laws
+
+pub put-accepted-spec : {M : Type 1} → statement M
+put-accepted-spec =
+    tie.close
+    (tie.spec put-top-requires put-names-requires put-members-requires same-length returns)
