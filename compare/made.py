@@ -301,9 +301,9 @@ def lines():
     d = Dex(o, b'038', classes=0)
     yield of(16, 'map code 0xF000', d.bytes([(0xf000, 1, 500)]), 'accepted', '"error"')
     deep = array()
-    for _ in range(64):
+    for _ in range(63):
         deep = array(deep)
-    yield of(17, 'depth 66', valued(deep), '13 {}', ok)
+    yield of(17, 'depth 65', valued(deep), '13 {}', ok)
     d = Dex(o, b'035')
     place = d.code((0,), debug=d.debug(0, (), (0x01, 0x7f)))
     d.record('LA;', data=d.class_data((), (), ((0, 1, place),), ()))
