@@ -44,7 +44,7 @@ use Rattle.decoded_value.specs.Readings.{read-out, decodedAt, decodedArr
 
 -- ---- one computed test of the table
 -- a test of each number below n
-all-below : ℕ → (ℕ → Bool) → Bool
+unfoldable pub all-below : ℕ → (ℕ → Bool) → Bool
 all-below zero test = true
 all-below (suc n) test = test n && all-below n test
 
@@ -59,7 +59,7 @@ last-or k n l = go (decLt k n)
     go (yes p) = inr p
     go (no p) = inl (omega arith)
 
-all-there : (n : ℕ) (test : ℕ → Bool) → all-below n test ≡ true → (k : ℕ) → k < n → test k ≡ true
+pub all-there : (n : ℕ) (test : ℕ → Bool) → all-below n test ≡ true → (k : ℕ) → k < n → test k ≡ true
 unfolding all-below
 all-there zero test e k l = absurd (omega arith)
 all-there (suc n) test e k l =

@@ -16,7 +16,7 @@ use Rattle.value_bodies.specs.Bodies.{pick}
 use Rattle.value_bodies.proofs.Picks.{pick-there, pick-none}
 
 -- a number is below another, or it is not
-pub either-way : (x y : ℕ) → (x < y) ⊎ (y ≤ x)
+either-way : (x y : ℕ) → (x < y) ⊎ (y ≤ x)
 either-way x zero = inr (omega arith)
 either-way zero (suc y) = inl (omega arith)
 either-way (suc x) (suc y) = lift (either-way x y)

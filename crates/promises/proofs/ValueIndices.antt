@@ -1,9 +1,8 @@
 -- On a file of which a reading is known, each index in values, annotations and directories is the number of a row that is there.
 -- Assumes nothing.
 use Prim.Native.Nat.{ℕ, zero, suc, _+_, _*_, _%_, _/_, _<_, _≤_}
-use mathlib.Core.Path.{_≡_, refl, ap, sym, subst, _∙_}
-use mathlib.Core.Logic.{⊎-elim}
-use mathlib.Core.Bool.{Bool, true, false, cond, _&&_, _||_, false≢true}
+use mathlib.Core.Path.{_≡_, refl, sym, subst, _∙_}
+use mathlib.Core.Bool.{Bool, true, false, cond, _&&_, _||_}
 use mathlib.Core.Option.{Option}
 use mathlib.Core.List.{List}
 use lib.ListN.{length, getD}
@@ -19,6 +18,7 @@ use Rattle.encoded_value.specs.Kinds.{arguments, count-of}
 use Rattle.encoded_value.specs.Tree.{Named, Annotation, Tree, byte, short, char, int, long, float, double, index, null, boolean, array, annotation, restOf, plainOf}
 use Rattle.encoded_value.specs.Rules.{KindWith, an-array, an-annotation, no-body, Value, AnnotationBody}
 use Rattle.encoded_value.proofs.Bounds.{named-with-extent, value-extent}
+use Rattle.decoded_value.proofs.Laws.{all-below, all-there}
 use Rattle.annotations.specs.Fixed.{Fixed}
 use Rattle.annotations.specs.Directories.{Entry}
 use Rattle.annotations.specs.Rules.{EntryRule}
@@ -29,7 +29,6 @@ use Rattle.promises.specs.Reads.{Reads}
 use Rattle.promises.specs.Annotations.{under}
 use Rattle.promises.specs.Values.{ValueIn}
 use Rattle.promises.specs.ValueIndices.{rows, ValueIndices}
-use Rattle.promises.proofs.Asked.{either-way}
 use Rattle.promises.proofs.Annotations.{Directory-there}
 use Rattle.promises.proofs.Values.{row-at, walk, Body-there, body-of, value-in, item-body}
 
@@ -55,24 +54,9 @@ sorted code =
     (eqb code 0x00 || (eqb code 0x02 || (eqb code 0x03 || (eqb code 0x04 || (eqb code 0x06 || (eqb code 0x10 || (eqb code 0x11 || (eqb code 0x1c || (eqb code 0x1d || (eqb code 0x1e || (eqb code 0x1f || (leb 0x15 code && ltb code 0x1c))))))))))))
     true
 
-all-sorted : ℕ → Bool
-all-sorted zero = true
-all-sorted (suc n) = sorted n && all-sorted n
-
-codes-sorted : all-sorted 32 ≡ true
-unfolding all-sorted sorted arguments
+codes-sorted : all-below 32 sorted ≡ true
+unfolding all-below sorted arguments
 codes-sorted = refl
-
-both-true : (a b : Bool) → (a && b) ≡ true → (a ≡ true) × (b ≡ true)
-both-true true b e = (refl, e)
-both-true false b e = absurd (false≢true e)
-
-sorted-there : (n : ℕ) → all-sorted n ≡ true → (k : ℕ) → k < n → sorted k ≡ true
-unfolding all-sorted
-sorted-there zero e k l = absurd (omega arith)
-sorted-there (suc n) e k l =
-    let b = both-true (sorted n) (all-sorted n) e in
-    ⊎-elim (λ (z : k < n). sorted-there n (b .1) k z) (λ (z : n ≤ k). let same : k ≡ n = omega arith in ap sorted same ∙ b .0) (either-way k n)
 
 module _ (w : Walk) where
   by-test : (b : Bool) (u v : Tree) → (b ≡ true → In-range w u) → (b ≡ false → In-range w v) → In-range w (cond b u v)
@@ -92,7 +76,7 @@ module _ (w : Walk) where
       by-test (eqb code 0x11) _ _ (λ e. tt) (λ ed.
       by-test (eqb code 0x1e) _ _ (λ e. tt) (λ en.
       by-test (eqb code 0x1f) _ _ (λ e. tt) (λ eb.
-      let t = rw (lt-ltb 0 (getD arguments code 0) (omega arith), e0, e2, e3, e4, e6, ef, ed, ne-eqb code 0x1c na, ne-eqb code 0x1d nn, en, eb) at (sorted-there 32 codes-sorted code l) in
+      let t = rw (lt-ltb 0 (getD arguments code 0) (omega arith), e0, e2, e3, e4, e6, ef, ed, ne-eqb code 0x1c na, ne-eqb code 0x1d nn, en, eb) at (all-there 32 sorted codes-sorted code l) in
       let c = both (at-most 0x15 code) (below code 0x1c) .sound t in
       (c .0, c .1, range c))))))))))
 

@@ -31,7 +31,7 @@ pub record ValueIndices (r : File) : Type 0 where
   pub item-name : {k : ℕ} {a : Item} {e : Named} → ItemIn r a → At (a .annotation .elements) k e → e .name < length (r .strings)
   pub body-type : {p q t : ℕ} (es : List Named) → ValueIn r (annotation p q t (elements-of es)) → t < length (r .types)
   pub body-name : {p q t k : ℕ} {e : Named} (es : List Named) → ValueIn r (annotation p q t (elements-of es)) → At es k e → e .name < length (r .strings)
-  -- the entries of a directory: "a parameter entry's index is a method"
+  -- the entries of a directory. A parameter entry's index is a method
   pub field-index : {n e : ℕ} {c : ClassBelow} {u : Under (List Item)} → At (r .classes) n c → At (under (λ d. d .fields) (c .annotations)) e u → u .index < length (r .fields)
   pub method-index : {n e : ℕ} {c : ClassBelow} {u : Under (List Item)} → At (r .classes) n c → At (under (λ d. d .methods) (c .annotations)) e u → u .index < length (r .methods)
   pub parameter-index : {n e : ℕ} {c : ClassBelow} {u : Under (List (Option (List Item)))} → At (r .classes) n c → At (under (λ d. d .parameters) (c .annotations)) e u → u .index < length (r .methods)

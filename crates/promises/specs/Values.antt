@@ -25,7 +25,7 @@ pub data ValueIn (r : File) : Tree → Type 0 where
   in-array : {p q k : ℕ} {vs : List Tree} {v : Tree} → ValueIn r (array p q (trees vs)) → At vs k v → ValueIn r v
   in-annotation : {p q t k : ℕ} {es : List Named} {e : Named} → ValueIn r (annotation p q t (elements-of es)) → At es k e → ValueIn r (e .value)
 
--- the static values of a class as an array of the file that ends at e. The reading keeps no end of theirs: it is the one that the rule of the bytes allows
+-- the static values of a class as an array of the file. The reading keeps no end of theirs: it is the one that the rule of the bytes allows
 pub record TopArray (f : List ℕ) (r : File) (place : ℕ) (l : List Tree) : Type 0 where
   pub ends : ℕ
   pub body : ArrayBody (section f (r .header)) (walkOf (frame-of (r .header) (r .map .handles .count)) place) 64 place l ends
