@@ -5,9 +5,11 @@ use mathlib.Core.Path.{_≡_, refl}
 use Rattle.refusal.specs.Outcome.{Outcome, answer, refused}
 use Rattle.refusal.proofs.Laws.{one-to-one}
 use Rattle.map_list.specs.declared.Entry.{Entry}
+use Rattle.table_readers.specs.declared.Opened.{Opened}
+use Rattle.table_readers.specs.declared.OpenedAnswer as O
 use Rattle.table_readers.specs.declared.CountAnswer as C
 use Rattle.table_readers.specs.declared.EntryAnswer as E
-use Rattle.table_readers.specs.Answers.{count-outcome, entry-outcome}
+use Rattle.table_readers.specs.Answers.{count-outcome, entry-outcome, opened-outcome}
 
 count-back : Outcome ℕ → C.CountAnswer
 count-back (answer n) = C.the-variants.Got n
@@ -32,3 +34,15 @@ entry-told (E.the-variants.Refused r) = refl
 
 pub entry-once : (x y : E.EntryAnswer) → entry-outcome x ≡ entry-outcome y → x ≡ y
 entry-once = one-to-one entry-outcome entry-back entry-told
+
+opened-back : Outcome Opened → O.OpenedAnswer
+opened-back (answer o) = O.the-variants.Got o
+opened-back (refused r) = O.the-variants.Refused r
+
+opened-told : (x : O.OpenedAnswer) → opened-back (opened-outcome x) ≡ x
+unfolding opened-back
+opened-told (O.the-variants.Got o) = refl
+opened-told (O.the-variants.Refused r) = refl
+
+pub opened-once : (x y : O.OpenedAnswer) → opened-outcome x ≡ opened-outcome y → x ≡ y
+opened-once = one-to-one opened-outcome opened-back opened-told
