@@ -16,10 +16,10 @@ use Rattle.header.specs.Header.{section}
 use Rattle.frame.specs.Offsets.{Allowed}
 use Rattle.frame.proofs.Laws.{allowed-decides}
 use Rattle.text.specs.Text.{Text}
-use Rattle.text.specs.Order.{Before}
+use Rattle.text_order.specs.Order.{Before}
 use Rattle.text.proofs.Exactly.{string-exact}
-use Rattle.text.proofs.Ordered.{strict, before-decides}
-use Rattle.text.proofs.ByUnits.{texts-once, same-bytes}
+use Rattle.text_order.proofs.Ordered.{strict, before-decides}
+use Rattle.text_order.proofs.ByUnits.{texts-once, same-bytes}
 use Rattle.string_ids.specs.Strings.{placeOf, recordOf, recordAt, stringOf, before, stringsAt, is, lookedUp}
 use Rattle.string_ids.specs.Rules.{StringAt, Precedes, StringsRule}
 

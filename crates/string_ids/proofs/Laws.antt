@@ -24,12 +24,13 @@ use Rattle.word.specs.Words.{u32At}
 use Rattle.header.specs.declared.Header.{Header}
 use Rattle.header.specs.Header.{section}
 use Rattle.text.specs.Text.{Text, stringAt, Extent, extent, extentAt}
-use Rattle.text.specs.Order.{compared, byKey, isLess, isEqual}
+use Rattle.text_order.specs.Order.{compared, byKey, isLess, isEqual}
 use Rattle.text.specs.Answers.{text-outcome}
-use Rattle.text.specs.declared.Order.{Order}
+use Rattle.text_order.specs.declared.Order.{Order}
 use Rattle.text.specs.declared.TextAnswer.{TextAnswer}
 use Rattle.text.specs.declared.TextAnswer.the-variants as T
-use Rattle.text.proofs.Laws.{Lies, text-lies, lies-order}
+use Rattle.text.proofs.Laws.{Lies, text-lies}
+use Rattle.text_order.proofs.ByUnits.{lies-order}
 use Rattle.string_ids.specs.Strings.{placeOf, recordOf, recordAt, stringOf, stringExtent, before, lessBytes, stringsAt, is, lookedUp}
 use Rattle.string_ids.specs.Answers.{item-outcome, last-bytes, found-number, lookup-outcome}
 use Rattle.string_ids.specs.declared.ItemAnswer.{ItemAnswer}

@@ -11,7 +11,7 @@ use Rattle.header.specs.Header.{section}
 use Rattle.frame.specs.Offsets.{Allowed}
 use Rattle.text.specs.Text.{Text}
 use Rattle.text.specs.Rules.{StringRule}
-use Rattle.text.specs.Order.{Before}
+use Rattle.text_order.specs.Order.{Before}
 use Rattle.string_ids.specs.Strings.{placeOf}
 
 -- string n: the record names an item in the data section, and the text stands there

@@ -12,7 +12,7 @@ use Rattle.header.specs.declared.Header.{Header}
 use Rattle.header.specs.Header.{section}
 use Rattle.frame.specs.Offsets.{allowed}
 use Rattle.text.specs.Text.{Text, stringAt, Extent, extent}
-use Rattle.text.specs.Order.{compared, byKey, isLess, isEqual}
+use Rattle.text_order.specs.Order.{compared, byKey, isLess, isEqual}
 
 -- where the record of string n is
 abbrev pub placeOf : Header → ℕ → ℕ

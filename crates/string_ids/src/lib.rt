@@ -1,15 +1,15 @@
 // The string table: its records, the texts that they name, and their order.
 use header::Header;
 use refusal::Refusal;
-use text::Order;
 use text::TextAnswer;
+use text_order::Order;
 ghost use mathlib.Core.Path.{_≡_};
 ghost use Rattle.text.specs.Answers.{text-outcome};
 ghost use Rattle.string_ids.specs.Strings.{placeOf, recordAt, stringExtent, lessBytes, lookedUp};
 ghost use Rattle.refusal.specs.Rows.{follows};
 ghost use Rattle.refusal.specs.Seek.{or-this};
 ghost use Rattle.word.specs.Bytes.{part};
-ghost use Rattle.text.specs.Order.{byKey, isEqual};
+ghost use Rattle.text_order.specs.Order.{byKey, isEqual};
 ghost use Rattle.string_ids.specs.Answers.{item-outcome, last-bytes, lookup-outcome, found-number};
 
 // Where a string data item is.
@@ -75,7 +75,7 @@ fn rises(s: &[u8], last: Last, start: usize, length: usize) -> bool
         Last::After {
             start: p,
             length: n,
-        } => match text::compare(word::bytes_at(s, p, n), word::bytes_at(s, start, length)) {
+        } => match text_order::compare(word::bytes_at(s, p, n), word::bytes_at(s, start, length)) {
             Order::Less => true,
             Order::Equal => false,
             Order::Greater => false,
@@ -89,7 +89,7 @@ fn found_with(found: Found, bytes: &[u8], text: &[u8], k: u32) -> Found
 {
     match found {
         Found::Number(j) => Found::Number(j),
-        Found::Nothing => match text::compare(bytes, text) {
+        Found::Nothing => match text_order::compare(bytes, text) {
             Order::Less => Found::Nothing,
             Order::Equal => Found::Number(k),
             Order::Greater => Found::Nothing,

@@ -24,7 +24,6 @@ use Rattle.leb128.specs.Leb.{ulebAt}
 use Rattle.leb128.proofs.Exactly.{uleb-exact}
 use Rattle.leb128.proofs.Laws.{on-leb, uleb-span}
 use Rattle.text.specs.Text.{wideAt, formAt, unitsAt, Text, stringAt, Extent, extent, extentAt, counted, countAt}
-use Rattle.text.specs.Order.{compared, byKey}
 use Rattle.text.specs.Answers.{wide-outcome, count-outcome, text-outcome}
 use Rattle.text.specs.declared.Wide.{Wide}
 use Rattle.text.specs.declared.Wide.the-variants as W
@@ -34,7 +33,6 @@ use Rattle.text.specs.declared.TextAnswer.{TextAnswer}
 use Rattle.text.specs.declared.TextAnswer.the-variants as T
 use Rattle.text.proofs.Shapes.{shape, shape-some}
 use Rattle.text.proofs.Exactly.{form-exact, units-exact, string-exact}
-use Rattle.text.proofs.ByUnits.{order-of-texts}
 
 -- a byte of a slice fits a number of 32 bits
 pub byte-fits : (s : List ℕ) (i : ℕ) → ((k : ℕ) → Fits w8 (getD s k 0)) → Fits w32 (getD s i 0)
@@ -198,12 +196,6 @@ text-lies s item {x} {p} {n} {u} e t =
       after-item = let h = number .after-place in omega arith;
       inside = omega arith;
     }
-
--- the order of two texts' bytes, where they lie, is the order of their units
-pub lies-order : {s r : List ℕ} {i j p q m n u v : ℕ} (h : Lies s i p m u) (k : Lies r j q n v) → byKey (part s p m) (part r q n) ≡ compared (h .text .units) (k .text .units)
-lies-order {s} {r} {i} {j} h k =
-    (λ x. byKey (sym (h .bytes-are) x) (sym (k .bytes-are) x))
-    ∙ order-of-texts (string-exact s i .sound (h .text) (h .read)) (string-exact r j .sound (k .text) (k .read))
 
 -- a call's answer, by the arm that was taken
 pub on-text : {B : Type 0} {x c : TextAnswer} {o : Outcome Extent} {y : Outcome B} (k : Extent → Outcome B)

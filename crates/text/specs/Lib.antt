@@ -1,5 +1,4 @@
 pub mod Units
 pub mod Text
 pub mod Rules
-pub mod Order
 pub mod Answers

@@ -1,4 +1,4 @@
-// Texts in modified UTF-8: a string data item read at a place, and the order of two texts.
+// Texts in modified UTF-8: a string data item read at a place.
 // `s` ends where the data section ends, `item` is the place of the string data item.
 use leb128::Leb;
 use refusal::Refusal;
@@ -6,7 +6,6 @@ ghost use mathlib.Core.Path.{_≡_};
 ghost use Prim.Native.Nat.{_<_};
 ghost use lib.ListN.{length};
 ghost use Rattle.text.specs.Text.{twoAt, threeAt, wideAt, countAt, extentAt};
-ghost use Rattle.text.specs.Order.{key, earlier, byKey};
 ghost use Rattle.text.specs.Answers.{wide-outcome, count-outcome, text-outcome};
 
 // A unit whose form has two or three bytes, and the place after it.
@@ -29,12 +28,6 @@ pub enum TextAnswer {
         units: u32,
     },
     Refused(Refusal),
-}
-
-pub enum Order {
-    Less,
-    Equal,
-    Greater,
 }
 
 // A form of two bytes: 9 where the second is not there, 14 where it does not follow or one byte is enough.
@@ -178,46 +171,4 @@ pub fn string_at(s: &[u8], item: usize) -> TextAnswer
             }
         },
     }
-}
-
-// What a byte counts as in the order of texts: c0 before every other.
-fn key_of(b: u8) -> u32
-    ensures { λ r. ⌜ r ≡ key b ⌝ }
-{
-    if b == 0xc0 {
-        return 0;
-    }
-    b as u32 + 1
-}
-
-// Which of two bytes that differ comes first.
-fn earlier_of(a: u8, b: u8) -> Order
-    ensures { λ r. ⌜ r ≡ earlier a b ⌝ }
-{
-    let x = key_of(a);
-    let y = key_of(b);
-    if x < y {
-        return Order::Less;
-    }
-    Order::Greater
-}
-
-// The order of two texts, by their bytes: the first in which they differ decides.
-pub fn compare(a: &[u8], b: &[u8]) -> Order
-    ensures { λ r. ⌜ r ≡ byKey (now (a .entry)) (now (b .entry)) ⌝ }
-{
-    let mut i = 0;
-    while i < a.len() {
-        if b.len() <= i {
-            return Order::Greater;
-        }
-        if a[i] != b[i] {
-            return earlier_of(a[i], b[i]);
-        }
-        i += 1;
-    }
-    if i < b.len() {
-        return Order::Less;
-    }
-    Order::Equal
 }

@@ -1,6 +1,6 @@
 // Runs byte cases of texts: where a text lies or why it is refused, and the order of two.
-use text::Order;
 use text::TextAnswer;
+use text_order::Order;
 
 fn number(n: u64) {
     io::print_decimal(1, n);
@@ -32,7 +32,7 @@ fn read(s: &[u8], item: usize) {
 }
 
 fn order(a: &[u8], b: &[u8]) {
-    match text::compare(a, b) {
+    match text_order::compare(a, b) {
         Order::Less => {
             io::write_all(1, b"less\n");
         }

@@ -1,10 +1,10 @@
 use Rattle.string_ids.proofs.Laws.{order-laws as laws}
-use Rattle.text.specs.Order.{isEqual}
+use Rattle.text_order.specs.Order.{isEqual}
 use Rattle.string_ids.proofs.found_with.Statement.{statement}
 use Rattle.string_ids.proofs.found_with.Tie as tie
 use Rattle.string_ids.proofs.found_with.Reads as reads
 use Rattle.string_ids.proofs.found_with.Lts as lts
-use Rattle.text.proofs.compare.Reads as compare-reads
+use Rattle.text_order.proofs.compare.Reads as compare-reads
 
 -- src/lib.rt:91:23
 enum-known-found : tie.Need-enum-known-found

@@ -1,10 +1,10 @@
 use Rattle.string_ids.proofs.Laws.{order-laws as laws}
-use Rattle.text.specs.Order.{isLess}
+use Rattle.text_order.specs.Order.{isLess}
 use Rattle.string_ids.proofs.rises.Statement.{statement}
 use Rattle.string_ids.proofs.rises.Tie as tie
 use Rattle.string_ids.proofs.rises.Reads as reads
 use Rattle.string_ids.proofs.rises.Lts as lts
-use Rattle.text.proofs.compare.Reads as compare-reads
+use Rattle.text_order.proofs.compare.Reads as compare-reads
 use Rattle.word.proofs.bytes_at.Reads as bytes-at-reads
 
 -- src/lib.rt:74:24

@@ -11,9 +11,9 @@ use borrow.Author.Needs.{needs}
 use borrow.Author.Tests.{ltb-false, eqb-true, eqb-false, lt-ltb, le-ltb, eq-eqb, ne-eqb}
 use native.Mathlib.Numerals.{add-one}
 use native.Mathlib.Omega.{arith}
-use Rattle.text.specs.Order.{compared, key, keys, byKey, earlier}
-use Rattle.text.specs.declared.Order.{Order}
-use Rattle.text.specs.declared.Order.the-variants.{Less, Equal, Greater}
+use Rattle.text_order.specs.Order.{compared, key, keys, byKey, earlier}
+use Rattle.text_order.specs.declared.Order.{Order}
+use Rattle.text_order.specs.declared.Order.the-variants.{Less, Equal, Greater}
 
 -- ---- keys
 pub key-zero : (b : ℕ) → b ≡ 0xc0 → 0 ≡ key b

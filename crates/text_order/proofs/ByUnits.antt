@@ -9,16 +9,18 @@ use lib.Dec.{ltb, eqb}
 use borrow.Author.Tests.{ltb-true, ltb-false, lt-ltb}
 use native.Mathlib.Omega.{arith}
 use Rattle.refusal.specs.Exact.{Decides}
 use Rattle.text.specs.Units.{form, encode}
 use Rattle.text.specs.Text.{Text}
 use Rattle.text.specs.Rules.{Units, StringRule}
-use Rattle.text.specs.Order.{compared, key, keys, byKey, isEqual}
-use Rattle.text.specs.declared.Order.{Order}
-use Rattle.text.specs.declared.Order.the-variants.{Less, Equal, Greater}
+use Rattle.text_order.specs.Order.{compared, key, keys, byKey, isEqual}
+use Rattle.text_order.specs.declared.Order.{Order}
+use Rattle.text_order.specs.declared.Order.the-variants.{Less, Equal, Greater}
 use Rattle.text.proofs.Shapes.{Two, Three, Shape, in-one, in-two, in-three, shape}
-use Rattle.text.proofs.Comparing.{key-zero, key-other, key-once, same-first}
-use Rattle.text.proofs.Exactly.{units-first, units-rest}
-use Rattle.text.proofs.Ordered.{same-decides}
+use Rattle.text_order.proofs.Comparing.{key-zero, key-other, key-once, same-first}
+use Rattle.text.proofs.Exactly.{units-first, units-rest, string-exact}
+use Rattle.text.proofs.Laws.{Lies}
+use Rattle.word.specs.Bytes.{part}
+use Rattle.text_order.proofs.Ordered.{same-decides}
 
 -- ---- the two sides changed
 abbrev turned : Order → Order
@@ -167,3 +169,9 @@ module _ {s r : List ℕ} {i j : ℕ} {t u : Text} (h : StringRule s i t) (k : S
   texts-once =
       let both = encode-once (t .units) (u .units) (h .units) (k .units) in
       (λ e. both .0 (h .bytes ∙ e ∙ sym (k .bytes)), λ e. sym (h .bytes) ∙ both .1 e ∙ k .bytes)
+
+-- the order of two texts' bytes, where they lie, is the order of their units
+pub lies-order : {s r : List ℕ} {i j p q m n u v : ℕ} (h : Lies s i p m u) (k : Lies r j q n v) → byKey (part s p m) (part r q n) ≡ compared (h .text .units) (k .text .units)
+lies-order {s} {r} {i} {j} h k =
+    (λ x. byKey (sym (h .bytes-are) x) (sym (k .bytes-are) x))
+    ∙ order-of-texts (string-exact s i .sound (h .text) (h .read)) (string-exact r j .sound (k .text) (k .read))

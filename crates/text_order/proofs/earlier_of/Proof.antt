@@ -1,9 +1,9 @@
-use Rattle.text.proofs.Comparing.{laws}
-use Rattle.text.proofs.earlier_of.Statement.{statement}
-use Rattle.text.proofs.earlier_of.Tie as tie
-use Rattle.text.proofs.earlier_of.Reads as reads
-use Rattle.text.proofs.earlier_of.Lts as lts
-use Rattle.text.proofs.key_of.Reads as key-of-reads
+use Rattle.text_order.proofs.Comparing.{laws}
+use Rattle.text_order.proofs.earlier_of.Statement.{statement}
+use Rattle.text_order.proofs.earlier_of.Tie as tie
+use Rattle.text_order.proofs.earlier_of.Reads as reads
+use Rattle.text_order.proofs.earlier_of.Lts as lts
+use Rattle.text_order.proofs.key_of.Reads as key-of-reads
 
 -- src/lib.rt:162:9
 key-of-requires : tie.Need-key-of-requires

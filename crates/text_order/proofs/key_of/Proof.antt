@@ -1,8 +1,8 @@
-use Rattle.text.proofs.Comparing.{laws}
-use Rattle.text.proofs.key_of.Statement.{statement}
-use Rattle.text.proofs.key_of.Tie as tie
-use Rattle.text.proofs.key_of.Reads as reads
-use Rattle.text.proofs.key_of.Lts as lts
+use Rattle.text_order.proofs.Comparing.{laws}
+use Rattle.text_order.proofs.key_of.Statement.{statement}
+use Rattle.text_order.proofs.key_of.Tie as tie
+use Rattle.text_order.proofs.key_of.Reads as reads
+use Rattle.text_order.proofs.key_of.Lts as lts
 
 -- src/lib.rt:153:9
 returns : tie.Need-returns

@@ -9,9 +9,9 @@ use borrow.Author.Tests.{ltb-true, ltb-false}
 use native.Mathlib.Omega.{arith}
 use Rattle.refusal.specs.Exact.{Decides, Strict}
 use Rattle.refusal.proofs.Exact.{decided-yes, decided-no}
-use Rattle.text.specs.Order.{Before, ends, lower, alike, compared, isLess, isEqual}
-use Rattle.text.specs.declared.Order.{Order}
-use Rattle.text.specs.declared.Order.the-variants.{Less, Equal, Greater}
+use Rattle.text_order.specs.Order.{Before, ends, lower, alike, compared, isLess, isEqual}
+use Rattle.text_order.specs.declared.Order.{Order}
+use Rattle.text_order.specs.declared.Order.the-variants.{Less, Equal, Greater}
 
 never : (x : List ℕ) → Before x x → ⊥
 never (a ∷ x) (lower p) = omega arith

@@ -1,11 +1,11 @@
 use Prim.Native.Nat.{_-_}
 use lib.ListN.{length}
-use Rattle.text.proofs.Comparing.{Comparing, laws}
-use Rattle.text.proofs.compare.Statement.{statement}
-use Rattle.text.proofs.compare.Tie as tie
-use Rattle.text.proofs.compare.Reads as reads
-use Rattle.text.proofs.compare.Lts as lts
-use Rattle.text.proofs.earlier_of.Reads as earlier-of-reads
+use Rattle.text_order.proofs.Comparing.{Comparing, laws}
+use Rattle.text_order.proofs.compare.Statement.{statement}
+use Rattle.text_order.proofs.compare.Tie as tie
+use Rattle.text_order.proofs.compare.Reads as reads
+use Rattle.text_order.proofs.compare.Lts as lts
+use Rattle.text_order.proofs.earlier_of.Reads as earlier-of-reads
 
 abbrev Inv-loop : tie.InvT-loop
 Inv-loop a b i₀ i = Comparing a b i

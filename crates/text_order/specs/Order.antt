@@ -3,8 +3,8 @@ use Prim.Native.Nat.{ℕ, _+_, _<_}
 use mathlib.Core.Bool.{Bool, true, false, cond}
 use mathlib.Core.List.{List, [], _∷_}
 use lib.Dec.{ltb, eqb}
-use Rattle.text.specs.declared.Order.{Order}
-use Rattle.text.specs.declared.Order.the-variants.{Less, Equal, Greater}
+use Rattle.text_order.specs.declared.Order.{Order}
+use Rattle.text_order.specs.declared.Order.the-variants.{Less, Equal, Greater}
 
 -- as a relation
 pub data Before : List ℕ → List ℕ → Type 0 where
