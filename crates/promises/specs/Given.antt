@@ -30,8 +30,8 @@ use Rattle.table_readers.specs.Tables.{typeName, protoOf, fieldOf, methodOf, cl
 use Rattle.table_readers.specs.Lists as L
 use Rattle.table_readers.specs.Flags.{classFlags}
 use Rattle.class_readers.specs.Members.{memberNumber, memberFlags}
-use Rattle.class_readers.specs.Code.{codeOf, unitsOf, tryNumber, handlerNumber, handlerPair}
-use Rattle.class_readers.specs.Debug.{debugOf, parameterName}
+use Rattle.code_readers.specs.Code.{codeOf, unitsOf, tryNumber, handlerNumber, handlerPair}
+use Rattle.debug_readers.specs.Debug.{debugOf, parameterName}
 use Rattle.annotation_readers.specs.Directories.{entryOf}
 use Rattle.annotation_readers.specs.Sets.{classSet, entrySet, parameterSet, placeOf}
 use Rattle.annotation_readers.specs.Items.{annotationOf}
