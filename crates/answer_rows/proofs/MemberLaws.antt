@@ -11,22 +11,24 @@ use Rattle.code_item.specs.Answers.{cover-meant}
 use Rattle.class_readers.specs.declared.MaybeData as Data
 use Rattle.class_readers.specs.declared.MaybeMember as Found
 use Rattle.class_readers.specs.declared.MaybeCount as Written
-use Rattle.class_readers.specs.declared.MaybeCode as Code
-use Rattle.class_readers.specs.declared.MaybeTry as Try
-use Rattle.class_readers.specs.declared.MaybeHandler as Handler
-use Rattle.class_readers.specs.declared.MaybePair as Pair
-use Rattle.class_readers.specs.declared.MaybeDebug as Debug
-use Rattle.class_readers.specs.declared.MaybeName as Name
+use Rattle.code_readers.specs.declared.MaybeCode as Code
+use Rattle.code_readers.specs.declared.MaybeTry as Try
+use Rattle.code_readers.specs.declared.MaybeHandler as Handler
+use Rattle.code_readers.specs.declared.MaybePair as Pair
+use Rattle.debug_readers.specs.declared.MaybeDebug as Debug
+use Rattle.debug_readers.specs.declared.MaybeName as Name
 use Rattle.code_item.specs.declared.CoverAnswer as Cover
 use Rattle.refusal.specs.declared.Checked as Checked
-use Rattle.annotation_readers.specs.declared.DirectoryAnswer as Directory
+use Rattle.directory_readers.specs.declared.DirectoryAnswer as Directory
 use Rattle.annotations.specs.declared.EntryAnswer as Place
 use Rattle.annotations.specs.declared.Word as Word
 use Rattle.annotations.specs.declared.SummaryAnswer as Annotation
-use Rattle.class_readers.specs.Answers.{maybe-data as data-outcome, maybe-member as found-outcome, maybe-count as written-outcome, maybe-code as code-outcome, maybe-try as try-outcome, maybe-handler as handler-outcome, maybe-pair as pair-outcome, maybe-debug as debug-outcome, maybe-name as name-outcome}
+use Rattle.class_readers.specs.Answers.{maybe-data as data-outcome, maybe-member as found-outcome, maybe-count as written-outcome}
+use Rattle.code_readers.specs.Answers.{maybe-code as code-outcome, maybe-try as try-outcome, maybe-handler as handler-outcome, maybe-pair as pair-outcome}
+use Rattle.debug_readers.specs.Answers.{maybe-debug as debug-outcome, maybe-name as name-outcome}
 use Rattle.code_item.specs.Answers.{cover-outcome}
 use Rattle.refusal.specs.Answers.{checked-outcome}
-use Rattle.annotation_readers.specs.Answers.{directory-outcome}
+use Rattle.directory_readers.specs.Answers.{directory-outcome}
 use Rattle.annotations.specs.Answers.{entry-outcome as place-outcome, word-outcome, summary-outcome as annotation-outcome}
 use Rattle.answer_rows.specs.Words.{annotation-words, counts-words, debug-words, directory-words, found-words, handler-words, no-words, number-words, option-words, outline-words, pair-words, place-words, row, told, told-if, try-words}
 use Rattle.answer_rows.proofs.Laws.{arm}

@@ -19,7 +19,7 @@ use Rattle.class_ids.specs.declared.Class.{Class}
 use Rattle.class_ids.specs.declared.Maybe as M
 use Rattle.decoded_value.specs.Shown.{Shown, Content, integer, natural, floating, row-number, body, nothing, truth}
 use Rattle.value_bodies.specs.Bodies.{ShownElement}
-use Rattle.value_readers.specs.Values.{Sized, NotedSize}
+use Rattle.value_readers.specs.Bodies.{Sized, NotedSize}
 use Rattle.class_data.specs.declared.Counts.{Counts}
 use Rattle.class_data.specs.declared.Member as D
 use Rattle.code_item.specs.declared.Outline.{Outline}

@@ -10,7 +10,9 @@ ghost use mathlib.Core.Option.{Option};
 ghost use Rattle.refusal.specs.Outcome.{answer};
 ghost use Rattle.code_item.specs.Answers.{catch-meant, cover-meant};
 ghost use Rattle.debug_info.specs.Answers.{name-meant};
-ghost use Rattle.class_readers.specs.Answers.{maybe-data as data-outcome, maybe-member as found-outcome, maybe-count as written-outcome, maybe-code as code-outcome, maybe-try as try-outcome, maybe-handler as handler-outcome, maybe-pair as pair-outcome, maybe-debug as debug-outcome, maybe-name as name-outcome};
+ghost use Rattle.class_readers.specs.Answers.{maybe-data as data-outcome, maybe-member as found-outcome, maybe-count as written-outcome};
+ghost use Rattle.code_readers.specs.Answers.{maybe-code as code-outcome, maybe-try as try-outcome, maybe-handler as handler-outcome, maybe-pair as pair-outcome};
+ghost use Rattle.debug_readers.specs.Answers.{maybe-debug as debug-outcome, maybe-name as name-outcome};
 ghost use Rattle.code_item.specs.Answers.{cover-outcome};
 ghost use Rattle.answer_rows.specs.Words.{counts-words, debug-words, found-words, handler-words, number-words, option-word, option-words, outline-words, pair-words, row, told-if, try-words};
 
@@ -109,23 +111,23 @@ pub fn written_row(a: class_readers::MaybeCount) -> [u64; 20]
     }
 }
 
-pub fn code_row(a: class_readers::MaybeCode) -> [u64; 20]
+pub fn code_row(a: code_readers::MaybeCode) -> [u64; 20]
     ensures { λ w. ⌜ w ≡ told-if outline-words (code-outcome a) ⌝ }
 {
     match a {
-        class_readers::MaybeCode::Refused(r) => words::refused(r),
-        class_readers::MaybeCode::Absent => words::absent(),
-        class_readers::MaybeCode::Got(o) => outline_row(o),
+        code_readers::MaybeCode::Refused(r) => words::refused(r),
+        code_readers::MaybeCode::Absent => words::absent(),
+        code_readers::MaybeCode::Got(o) => outline_row(o),
     }
 }
 
-pub fn try_row(a: class_readers::MaybeTry) -> [u64; 20]
+pub fn try_row(a: code_readers::MaybeTry) -> [u64; 20]
     ensures { λ w. ⌜ w ≡ told-if try-words (try-outcome a) ⌝ }
 {
     match a {
-        class_readers::MaybeTry::Refused(r) => words::refused(r),
-        class_readers::MaybeTry::Absent => words::absent(),
-        class_readers::MaybeTry::Got { attempt, number } => words::four(
+        code_readers::MaybeTry::Refused(r) => words::refused(r),
+        code_readers::MaybeTry::Absent => words::absent(),
+        code_readers::MaybeTry::Got { attempt, number } => words::four(
             attempt.start as u64,
             attempt.count as u64,
             attempt.handler as u64,
@@ -134,13 +136,13 @@ pub fn try_row(a: class_readers::MaybeTry) -> [u64; 20]
     }
 }
 
-pub fn handler_row(a: class_readers::MaybeHandler) -> [u64; 20]
+pub fn handler_row(a: code_readers::MaybeHandler) -> [u64; 20]
     ensures { λ w. ⌜ w ≡ told-if handler-words (handler-outcome a) ⌝ }
 {
     match a {
-        class_readers::MaybeHandler::Refused(r) => words::refused(r),
-        class_readers::MaybeHandler::Absent => words::absent(),
-        class_readers::MaybeHandler::Got { offset, pairs, all } => words::four(
+        code_readers::MaybeHandler::Refused(r) => words::refused(r),
+        code_readers::MaybeHandler::Absent => words::absent(),
+        code_readers::MaybeHandler::Got { offset, pairs, all } => words::four(
             offset as u64,
             pairs as u64,
             catch_word(all),
@@ -149,23 +151,23 @@ pub fn handler_row(a: class_readers::MaybeHandler) -> [u64; 20]
     }
 }
 
-pub fn pair_row(a: class_readers::MaybePair) -> [u64; 20]
+pub fn pair_row(a: code_readers::MaybePair) -> [u64; 20]
     ensures { λ w. ⌜ w ≡ told-if pair-words (pair-outcome a) ⌝ }
 {
     match a {
-        class_readers::MaybePair::Refused(r) => words::refused(r),
-        class_readers::MaybePair::Absent => words::absent(),
-        class_readers::MaybePair::Got(p) => words::four(p.kind as u64, p.address as u64, 0, 0),
+        code_readers::MaybePair::Refused(r) => words::refused(r),
+        code_readers::MaybePair::Absent => words::absent(),
+        code_readers::MaybePair::Got(p) => words::four(p.kind as u64, p.address as u64, 0, 0),
     }
 }
 
-pub fn debug_row(a: class_readers::MaybeDebug) -> [u64; 20]
+pub fn debug_row(a: debug_readers::MaybeDebug) -> [u64; 20]
     ensures { λ w. ⌜ w ≡ told-if debug-words (debug-outcome a) ⌝ }
 {
     match a {
-        class_readers::MaybeDebug::Refused(r) => words::refused(r),
-        class_readers::MaybeDebug::Absent => words::absent(),
-        class_readers::MaybeDebug::Got {
+        debug_readers::MaybeDebug::Refused(r) => words::refused(r),
+        debug_readers::MaybeDebug::Absent => words::absent(),
+        debug_readers::MaybeDebug::Got {
             line,
             names,
             start,
@@ -174,13 +176,13 @@ pub fn debug_row(a: class_readers::MaybeDebug) -> [u64; 20]
     }
 }
 
-pub fn name_row(a: class_readers::MaybeName) -> [u64; 20]
+pub fn name_row(a: debug_readers::MaybeName) -> [u64; 20]
     ensures { λ w. ⌜ w ≡ told-if option-words (name-outcome a) ⌝ }
 {
     match a {
-        class_readers::MaybeName::Refused(r) => words::refused(r),
-        class_readers::MaybeName::Absent => words::absent(),
-        class_readers::MaybeName::Got(n) => words::four(name_word(n), 0, 0, 0),
+        debug_readers::MaybeName::Refused(r) => words::refused(r),
+        debug_readers::MaybeName::Absent => words::absent(),
+        debug_readers::MaybeName::Got(n) => words::four(name_word(n), 0, 0, 0),
     }
 }
 

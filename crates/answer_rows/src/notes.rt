@@ -2,7 +2,7 @@
 use super::words;
 ghost use mathlib.Core.Path.{_≡_};
 ghost use Rattle.refusal.specs.Answers.{checked-outcome};
-ghost use Rattle.annotation_readers.specs.Answers.{directory-outcome};
+ghost use Rattle.directory_readers.specs.Answers.{directory-outcome};
 ghost use Rattle.annotations.specs.Answers.{entry-outcome as place-outcome, word-outcome, summary-outcome as annotation-outcome};
 ghost use Rattle.answer_rows.specs.Words.{annotation-words, directory-words, no-words, number-words, place-words, told, told-if};
 
@@ -15,13 +15,13 @@ pub fn checked_row(a: refusal::Checked) -> [u64; 20]
     }
 }
 
-pub fn directory_row(a: annotation_readers::DirectoryAnswer) -> [u64; 20]
+pub fn directory_row(a: directory_readers::DirectoryAnswer) -> [u64; 20]
     ensures { λ w. ⌜ w ≡ told-if directory-words (directory-outcome a) ⌝ }
 {
     match a {
-        annotation_readers::DirectoryAnswer::Refused(r) => words::refused(r),
-        annotation_readers::DirectoryAnswer::Absent => words::absent(),
-        annotation_readers::DirectoryAnswer::Got(h) => words::four(
+        directory_readers::DirectoryAnswer::Refused(r) => words::refused(r),
+        directory_readers::DirectoryAnswer::Absent => words::absent(),
+        directory_readers::DirectoryAnswer::Got(h) => words::four(
             h.set as u64,
             h.fields as u64,
             h.methods as u64,

@@ -3,8 +3,8 @@ ghost use lib.ListN.{length};
 ghost use mathlib.Core.Path.{_≡_};
 ghost use Rattle.answer_rows.specs.Words.{told-if, number-words, counts-words, found-words, outline-words, try-words, handler-words, pair-words};
 ghost use Rattle.answer_rows.specs.Words.{debug-words, option-words};
-ghost use Rattle.class_readers.specs.Code.{codeOf, unitsOf, unitsContent, tryNumber, coveringTry, handlerCount, handlerNumber, handlerPair};
-ghost use Rattle.class_readers.specs.Debug.{debugOf, parameterName};
+ghost use Rattle.code_readers.specs.Code.{codeOf, unitsOf, unitsContent, tryNumber, coveringTry, handlerCount, handlerNumber, handlerPair};
+ghost use Rattle.debug_readers.specs.Debug.{debugOf, parameterName};
 ghost use Rattle.class_readers.specs.Members.{classData, memberNumber, memberFlags, memberContent};
 
 #[no_mangle]

@@ -1,8 +1,8 @@
 // Annotations.
 ghost use mathlib.Core.Path.{_≡_};
-ghost use Rattle.annotation_readers.specs.Directories.{directory, entryOf};
-ghost use Rattle.annotation_readers.specs.Items.{annotationOf, elementOf};
-ghost use Rattle.annotation_readers.specs.Sets.{classSet, entrySet, parameterSet, parameterSetCount, countOf, placeOf};
+ghost use Rattle.directory_readers.specs.Directories.{directory, entryOf};
+ghost use Rattle.value_readers.specs.Items.{annotationOf, elementOf};
+ghost use Rattle.set_readers.specs.Sets.{classSet, entrySet, parameterSet, parameterSetCount, countOf, placeOf};
 ghost use Rattle.answer_rows.specs.Words.{told, told-if, number-words, directory-words, place-words, annotation-words, element-words};
 
 #[no_mangle]

@@ -1,7 +1,8 @@
 // Values by place and by class.
 
 ghost use mathlib.Core.Path.{_≡_};
-ghost use Rattle.value_readers.specs.Values.{arrayOf, arrayValueOf, bodyOf, elementOf, staticCount, staticValue};
+ghost use Rattle.value_readers.specs.Bodies.{arrayOf, arrayValueOf, bodyOf, elementOf};
+ghost use Rattle.value_readers.specs.Statics.{staticCount, staticValue};
 ghost use Rattle.answer_rows.specs.Words.{told, number-words, array-words, body-words, value-words, element-words};
 
 // How many values the array at a place has, and its length in bytes.

@@ -1,5 +1,3 @@
 pub mod Spots
 pub mod Members
-pub mod Code
-pub mod Debug
 pub mod Answers

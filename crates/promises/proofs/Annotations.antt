@@ -29,10 +29,11 @@ use Rattle.annotations.specs.Rules.{OffsetAllowed, EntryRule, ItemRule}
 use Rattle.annotations.proofs.Exactly.{offsets-exact, directory-exact, item-exact}
 use Rattle.annotation_walk.specs.Below.{Under, Annotated}
 use Rattle.annotation_walk.specs.Rules.{SetBelow, ReferencesBelow, EntryBelow, DirectoryBelow}
-use Rattle.annotation_readers.specs.declared.Reached.{Reached}
-use Rattle.annotation_readers.specs.Directories as D
-use Rattle.annotation_readers.specs.Sets as S
-use Rattle.annotation_readers.specs.Items as I
+use Rattle.directory_readers.specs.declared.Reached.{Reached}
+use Rattle.directory_readers.specs.Directories as D
+use Rattle.set_readers.specs.Sets as S
+use Rattle.value_readers.specs.Opening.{openedWithin}
+use Rattle.value_readers.specs.Items as I
 use Rattle.class_walk.specs.Classes.{ClassBelow}
 use Rattle.whole_check.specs.File.{File}
 use Rattle.promises.specs.Reads.{Reads}
@@ -241,20 +242,21 @@ module _ (f : List ℕ) {r : File} (reads : Reads f r) where
   opened = headed f reads _ ∙ bind-answer _ (mapped f reads)
 
   -- a place in the data section passes: "7: .. or a body place outside the data section"
-  pub place-passes : {B : Type 0} {x : ℕ} → Allowed (r .header .start) (r .header .end) false x → (rest : Outcome B) → given (allowed (r .header .start) (r .header .end) false x) 7 0 rest ≡ rest
-  place-passes {x = x} a rest = sym (passes 7 0 (allowed-decides (r .header .start) (r .header .end) false x .complete a) refl)
+  pub opened-within : {x : ℕ} → Allowed (r .header .start) (r .header .end) false x → openedWithin f x ≡ answer (record { header = r .header; handles = r .map .handles .count })
+  unfolding openedWithin
+  opened-within {x} a = bind-answer _ opened ∙ sym (passes 7 0 (allowed-decides (r .header .start) (r .header .end) false x .complete a) refl)
 
   module _ {a : Item} (i : ItemIn r a) where
     item-read : itemAt (section f (r .header)) (frame-of (r .header) (r .map .handles .count)) (a .place) ≡ answer a
     item-read = item-exact (section f (r .header)) (frame-of (r .header) (r .map .handles .count)) (a .place) .complete a (item-in i .rule)
 
     summary-read : I.annotationOf f (a .place) ≡ answer (summary-of a)
-    unfolding I.annotationOf I.annotationUnder itemSummary
-    summary-read = bind-answer _ opened ∙ place-passes (item-in i .allows) _ ∙ bind-answer _ item-read
+    unfolding I.annotationOf itemSummary
+    summary-read = bind-answer _ (opened-within (item-in i .allows)) ∙ bind-answer _ item-read
 
     element-read : (k : ℕ) → I.elementOf f (a .place) k ≡ (pick k (a .annotation .elements) >>= λ (n : Named). answer (element-shown n))
-    unfolding I.elementOf I.elementUnder itemElement
-    element-read k = bind-answer _ opened ∙ place-passes (item-in i .allows) _ ∙ bind-answer _ item-read
+    unfolding I.elementOf itemElement
+    element-read k = bind-answer _ (opened-within (item-in i .allows)) ∙ bind-answer _ item-read
 
 pub annotations-agree : (f : List ℕ) {r : File} → Reads f r → AnnotationReaders f r
 unfolding D.directory D.entryOf S.countOf S.placeOf S.classSet S.parameterSet S.parameterSetCount

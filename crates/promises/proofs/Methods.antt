@@ -40,8 +40,8 @@ use Rattle.table_readers.specs.Tables.{classIn}
 use Rattle.class_readers.specs.declared.Spot.{Spot}
 use Rattle.class_readers.specs.Spots.{onward, spotAt, dataIn, dataSpot, methodUnder, methodSpot, debugUnder, debugSpot}
 use Rattle.class_readers.specs.Members.{countsUnder, classData, memberUnder, memberNumber, flagsIn, memberFlags, contentOf, memberContent}
-use Rattle.class_readers.specs.Code.{codeIn, outlineUnder, codeOf, tryUnder, tryNumber, coverUnder, coveringTry, handlersIn, handlerCount, handlerUnder, handlerNumber, pairUnder, handlerPair, unitsUnder, unitsOf, unitsOver, unitsIn, unitsContent}
-use Rattle.class_readers.specs.Debug.{wholeUnder, debugWhole, extentUnder, debugOf, nameUnder, parameterName, programOf, lineProgram}
+use Rattle.code_readers.specs.Code.{codeIn, outlineUnder, codeOf, tryUnder, tryNumber, coverUnder, coveringTry, handlersIn, handlerCount, handlerUnder, handlerNumber, pairUnder, handlerPair, unitsUnder, unitsOf, unitsOver, unitsIn, unitsContent}
+use Rattle.debug_readers.specs.Debug.{wholeUnder, debugWhole, extentUnder, debugOf, nameUnder, parameterName, programOf, lineProgram}
 use Rattle.class_walk.specs.Methods.{Body, DataBelow}
 use Rattle.class_walk.specs.Classes.{ClassBelow}
 use Rattle.class_walk.specs.Rules.{BodyRule, MethodRule, DataBelowRule}

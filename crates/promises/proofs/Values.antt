@@ -28,7 +28,8 @@ use Rattle.value_bodies.specs.Bodies.{pick, arrayCount, arrayValue, annotationN
 use Rattle.annotations.specs.Items.{Item}
 use Rattle.class_ids.specs.declared.Class.{Class}
 use Rattle.class_ids.specs.Rules.{ClassRule}
-use Rattle.value_readers.specs.Values as R
+use Rattle.value_readers.specs.Bodies as B
+use Rattle.value_readers.specs.Statics as R
 use Rattle.class_walk.specs.Classes.{ClassBelow}
 use Rattle.class_walk.specs.Rules.{ValuesRule}
 use Rattle.whole_check.specs.File.{File}
@@ -38,7 +39,7 @@ use Rattle.promises.specs.Annotations.{element-shown, ItemIn}
 use Rattle.promises.specs.Values.{ValueIn, a-static, of-item, in-array, in-annotation, TopArray, ValueReaders}
 use Rattle.promises.proofs.Asked.{pick-empty}
 use Rattle.promises.proofs.Tables.{class-at}
-use Rattle.promises.proofs.Annotations.{section-short, item-in, opened, place-passes}
+use Rattle.promises.proofs.Annotations.{section-short, item-in, opened, opened-within}
 
 -- ---- the lists inside a tree are told from it
 listed-trees : Trees → List Tree
@@ -183,13 +184,13 @@ module _ (f : List ℕ) {r : File} (reads : Reads f r) where
     array-allowed : Allowed (r .header .start) (r .header .end) false p
     array-allowed = in-section (b .low) (array-extent (section f (r .header)) (walk p) 64 p vs q (b .body))
 
-    array-sized : R.arrayOf f p ≡ answer (record { count = length vs; length = q - p })
-    unfolding R.arrayOf R.arrayUnder R.arrayBody arrayCount
-    array-sized = bind-answer _ (opened f reads) ∙ place-passes f reads array-allowed _ ∙ bind-answer _ (bind-answer _ array-read) ∙ bind-answer _ (bind-answer _ array-read)
+    array-sized : B.arrayOf f p ≡ answer (record { count = length vs; length = q - p })
+    unfolding B.arrayOf B.arrayBody arrayCount
+    array-sized = bind-answer _ (opened-within f reads array-allowed) ∙ bind-answer _ (bind-answer _ array-read) ∙ bind-answer _ (bind-answer _ array-read)
 
-    array-valued : (k : ℕ) → R.arrayValueOf f p k ≡ (pick k vs >>= λ (v : Tree). answer (shown v))
-    unfolding R.arrayValueOf R.arrayValueUnder arrayValue
-    array-valued k = bind-answer _ (opened f reads) ∙ place-passes f reads array-allowed _ ∙ bind-answer _ array-read
+    array-valued : (k : ℕ) → B.arrayValueOf f p k ≡ (pick k vs >>= λ (v : Tree). answer (shown v))
+    unfolding B.arrayValueOf arrayValue
+    array-valued k = bind-answer _ (opened-within f reads array-allowed) ∙ bind-answer _ array-read
 
   module _ {p q : ℕ} {a : Annotation} (b : Body-there p p q a) where
     body-read : annotationAt (section f (r .header)) (walk p) 64 p ≡ answer (record { item = a; next = q })
@@ -198,13 +199,13 @@ module _ (f : List ℕ) {r : File} (reads : Reads f r) where
     body-allowed : Allowed (r .header .start) (r .header .end) false p
     body-allowed = in-section (b .low) (annotation-extent (section f (r .header)) (walk p) 64 p a q (b .body))
 
-    body-sized : R.bodyOf f p ≡ answer (record { type-index = a .type-index; count = length (a .elements); length = q - p })
-    unfolding R.bodyOf R.bodyUnder R.notedBody annotationNoted
-    body-sized = bind-answer _ (opened f reads) ∙ place-passes f reads body-allowed _ ∙ bind-answer _ (bind-answer _ body-read) ∙ bind-answer _ (bind-answer _ body-read)
+    body-sized : B.bodyOf f p ≡ answer (record { type-index = a .type-index; count = length (a .elements); length = q - p })
+    unfolding B.bodyOf B.notedBody annotationNoted
+    body-sized = bind-answer _ (opened-within f reads body-allowed) ∙ bind-answer _ (bind-answer _ body-read) ∙ bind-answer _ (bind-answer _ body-read)
 
-    body-valued : (k : ℕ) → R.elementOf f p k ≡ (pick k (a .elements) >>= λ (e : Named). answer (element-shown e))
-    unfolding R.elementOf R.elementUnder annotationElement
-    body-valued k = bind-answer _ (opened f reads) ∙ place-passes f reads body-allowed _ ∙ bind-answer _ body-read
+    body-valued : (k : ℕ) → B.elementOf f p k ≡ (pick k (a .elements) >>= λ (e : Named). answer (element-shown e))
+    unfolding B.elementOf annotationElement
+    body-valued k = bind-answer _ (opened-within f reads body-allowed) ∙ bind-answer _ body-read
 
   -- ---- static values by number
   statics-counted : {at : ℕ} {o : Option (List Tree)} → Statics-there at o → R.valuesIn f (r .header) (r .map .handles .count) at ≡ answer (length (listed o))

@@ -13,9 +13,9 @@ use Rattle.annotations.specs.declared.Head.{Head}
 use Rattle.annotations.specs.Directories.{Entry}
 use Rattle.annotations.specs.Items.{Item, Summary}
 use Rattle.annotation_walk.specs.Below.{Under, Annotated}
-use Rattle.annotation_readers.specs.Directories.{directory, entryOf}
-use Rattle.annotation_readers.specs.Sets.{classSet, entrySet, parameterSet, parameterSetCount, countOf, placeOf}
-use Rattle.annotation_readers.specs.Items.{annotationOf, elementOf}
+use Rattle.directory_readers.specs.Directories.{directory, entryOf}
+use Rattle.set_readers.specs.Sets.{classSet, entrySet, parameterSet, parameterSetCount, countOf, placeOf}
+use Rattle.value_readers.specs.Items.{annotationOf, elementOf}
 use Rattle.class_walk.specs.Classes.{ClassBelow}
 use Rattle.whole_check.specs.File.{File}
 use Rattle.promises.specs.Tables.{listed, part-of}

@@ -30,13 +30,14 @@ use Rattle.table_readers.specs.Tables.{typeName, protoOf, fieldOf, methodOf, cl
 use Rattle.table_readers.specs.Lists as L
 use Rattle.table_readers.specs.Flags.{classFlags}
 use Rattle.class_readers.specs.Members.{memberNumber, memberFlags}
-use Rattle.class_readers.specs.Code.{codeOf, unitsOf, tryNumber, handlerNumber, handlerPair}
-use Rattle.class_readers.specs.Debug.{debugOf, parameterName}
-use Rattle.annotation_readers.specs.Directories.{entryOf}
-use Rattle.annotation_readers.specs.Sets.{classSet, entrySet, parameterSet, placeOf}
-use Rattle.annotation_readers.specs.Items.{annotationOf}
-use Rattle.annotation_readers.specs.Items as A
-use Rattle.value_readers.specs.Values.{arrayOf, arrayValueOf, bodyOf, elementOf, staticValue}
+use Rattle.code_readers.specs.Code.{codeOf, unitsOf, tryNumber, handlerNumber, handlerPair}
+use Rattle.debug_readers.specs.Debug.{debugOf, parameterName}
+use Rattle.directory_readers.specs.Directories.{entryOf}
+use Rattle.set_readers.specs.Sets.{classSet, entrySet, parameterSet, placeOf}
+use Rattle.value_readers.specs.Items.{annotationOf}
+use Rattle.value_readers.specs.Items as A
+use Rattle.value_readers.specs.Bodies.{arrayOf, arrayValueOf, bodyOf, elementOf}
+use Rattle.value_readers.specs.Statics.{staticValue}
 use Rattle.class_walk.specs.Methods.{Body, DataBelow}
 use Rattle.class_walk.specs.Classes.{ClassBelow}
 use Rattle.whole_check.specs.File.{ProtoBelow, File}

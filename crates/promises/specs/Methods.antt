@@ -21,8 +21,8 @@ use Rattle.code_item.specs.Code.{Code, outline, Linked, handed}
 use Rattle.debug_info.specs.Debug.{Debug, Extent}
 use Rattle.class_readers.specs.Spots.{onward}
 use Rattle.class_readers.specs.Members.{classData, memberNumber, memberFlags, contentOf, memberContent}
-use Rattle.class_readers.specs.Code.{codeOf, unitsOf, unitsContent, tryNumber, coveringTry, handlerCount, handlerNumber, handlerPair}
-use Rattle.class_readers.specs.Debug.{debugOf, parameterName, programOf, lineProgram}
+use Rattle.code_readers.specs.Code.{codeOf, unitsOf, unitsContent, tryNumber, coveringTry, handlerCount, handlerNumber, handlerPair}
+use Rattle.debug_readers.specs.Debug.{debugOf, parameterName, programOf, lineProgram}
 use Rattle.class_walk.specs.Methods.{Body, DataBelow}
 use Rattle.whole_check.specs.File.{File}
 use Rattle.promises.specs.Tables.{part-of}

@@ -12,7 +12,8 @@ use Rattle.encoded_value.specs.Tree.{Named, Tree, array, annotation, trees, ele
 use Rattle.encoded_value.specs.Rules.{ArrayBody}
 use Rattle.decoded_value.specs.Shown.{shown}
 use Rattle.annotations.specs.Items.{Item}
-use Rattle.value_readers.specs.Values.{arrayOf, arrayValueOf, bodyOf, elementOf, staticCount, staticValue}
+use Rattle.value_readers.specs.Bodies.{arrayOf, arrayValueOf, bodyOf, elementOf}
+use Rattle.value_readers.specs.Statics.{staticCount, staticValue}
 use Rattle.class_walk.specs.Classes.{ClassBelow}
 use Rattle.whole_check.specs.File.{File}
 use Rattle.promises.specs.Tables.{listed, part-of}

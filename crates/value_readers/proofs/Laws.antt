@@ -25,7 +25,9 @@ use Rattle.value_bodies.specs.Bodies.{Noted, ShownElement, arrayCount, arrayVal
 use Rattle.value_bodies.specs.declared.Count.{Count}
 use Rattle.value_bodies.specs.declared.Head.{Head}
 use Rattle.value_bodies.specs.Answers.{count-outcome, head-outcome}
-use Rattle.value_readers.specs.Values.{walk-in, Sized, arrayBody, NotedSize, notedBody}
+use Rattle.annotations.specs.Items.{Summary, itemSummary, itemElement}
+use Rattle.value_readers.specs.Opening.{walk-in}
+use Rattle.value_readers.specs.Bodies.{Sized, arrayBody, NotedSize, notedBody}
 
 pub walk-framed : (h : Header) (handles item : ℕ) {r : Frame} {w : Walk} → r ≡ frame-of h handles → w ≡ walkOf r item → w ≡ walk-in h handles item
 walk-framed h handles item e q = q ∙ ap (λ (x : Frame). walkOf x item) e
@@ -47,6 +49,14 @@ module _ (f : List ℕ) (h : Header) (handles item p : ℕ) {s : List ℕ} {w : 
   pub element-walked : (k : ℕ) {y : Outcome ShownElement} → y ≡ annotationElement s w p k → y ≡ annotationElement (section f h) (walk-in h handles item) p k
   element-walked k q = q ∙ (λ i. annotationElement (e i) (g i) p k)
 
+-- an annotation item that was read there, against the file's counts, r
+module _ (f : List ℕ) (h : Header) (handles item : ℕ) {s : List ℕ} {r : Frame} (e : s ≡ section f h) (g : r ≡ frame-of h handles) where
+  pub summary-framed : {y : Outcome Summary} → y ≡ itemSummary s r item → y ≡ itemSummary (section f h) (frame-of h handles) item
+  summary-framed q = q ∙ (λ i. itemSummary (e i) (g i) item)
+
+  pub element-framed : (k : ℕ) {y : Outcome ShownElement} → y ≡ itemElement s r item k → y ≡ itemElement (section f h) (frame-of h handles) item k
+  element-framed k q = q ∙ (λ i. itemElement (e i) (g i) item k)
+
 -- a body ends after its place
 pub array-room : (s : List ℕ) (w : Walk) (p : ℕ) {x : Step} {q : ℕ} → step-outcome x ≡ pastArray s w 64 p → x ≡ Next q → p ≤ q
 array-room s w p e t = let h = array-ends s w 64 p e t in let z = h .after-place in omega arith
@@ -62,6 +72,8 @@ on-noted = said head-outcome
 
 pub ruleset body-laws = (array-room, annotation-room, on-count, on-noted, on-step, calls, needs)
 
-pub ruleset walked = (walk-framed, array-walked, count-walked, value-walked, body-walked, element-walked, calls, tests, needs)
+pub ruleset walked = (walk-framed, count-walked, value-walked, calls, tests, needs)
 
-pub ruleset laws = (on-opened, class-laws, calls, needs)
+pub ruleset placed = (on-opened, array-walked, value-walked, body-walked, element-walked, summary-framed, element-framed, calls, needs)
+
+pub ruleset laws = (on-opened, class-laws, calls, tests, needs)

@@ -5,7 +5,7 @@ use Rattle.refusal.specs.Outcome.{Outcome, answer, refused}
 use Rattle.refusal.proofs.Laws.{one-to-one}
 use Rattle.value_readers.specs.declared.ArrayAnswer as A
 use Rattle.value_readers.specs.declared.BodyAnswer as B
-use Rattle.value_readers.specs.Values.{Sized, NotedSize}
+use Rattle.value_readers.specs.Bodies.{Sized, NotedSize}
 use Rattle.value_readers.specs.Answers.{array-outcome, body-outcome}
 
 array-back : Outcome Sized → A.ArrayAnswer

@@ -2,7 +2,7 @@
 use Rattle.refusal.specs.Outcome.{Outcome, answer, refused}
 use Rattle.value_readers.specs.declared.ArrayAnswer as A
 use Rattle.value_readers.specs.declared.BodyAnswer as B
-use Rattle.value_readers.specs.Values.{Sized, NotedSize}
+use Rattle.value_readers.specs.Bodies.{Sized, NotedSize}
 
 abbrev pub array-outcome : A.ArrayAnswer → Outcome Sized
 array-outcome (A.the-variants.Got n l) = answer (record { count = n; length = l })

@@ -1,2 +1,5 @@
-pub mod Values
+pub mod Opening
+pub mod Bodies
+pub mod Items
+pub mod Statics
 pub mod Answers

@@ -5,7 +5,7 @@ use Rattle.annotation_read_run.proofs.elements.Tie as tie
 use Rattle.annotation_read_run.proofs.elements.Reads as reads
 use Rattle.annotation_read_run.proofs.elements.Lts as lts
 use Rattle.annotation_read_run.proofs.element.Reads as element-reads
-use Rattle.annotation_readers.proofs.annotation_element.Reads as annotation-element-reads
+use Rattle.value_readers.proofs.annotation_element.Reads as annotation-element-reads
 
 abbrev Inv-loop : tie.InvT-loop
 Inv-loop f at n k₀ k = Unit

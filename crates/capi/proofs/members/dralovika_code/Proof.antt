@@ -4,7 +4,7 @@ use Rattle.capi.proofs.members.dralovika_code.Tie as tie
 use Rattle.capi.proofs.members.dralovika_code.Reads as reads
 use Rattle.capi.proofs.members.dralovika_code.Lts as lts
 use Rattle.answer_rows.proofs.code_row.Reads as code-row-reads
-use Rattle.class_readers.proofs.code.Reads as code-reads
+use Rattle.code_readers.proofs.code.Reads as code-reads
 
 -- src/members.rt:39:34
 code-requires : tie.Need-code-requires

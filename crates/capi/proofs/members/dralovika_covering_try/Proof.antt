@@ -4,7 +4,7 @@ use Rattle.capi.proofs.members.dralovika_covering_try.Tie as tie
 use Rattle.capi.proofs.members.dralovika_covering_try.Reads as reads
 use Rattle.capi.proofs.members.dralovika_covering_try.Lts as lts
 use Rattle.answer_rows.proofs.cover_row.Reads as cover-row-reads
-use Rattle.class_readers.proofs.covering_try.Reads as covering-try-reads
+use Rattle.code_readers.proofs.covering_try.Reads as covering-try-reads
 
 -- src/members.rt:63:35
 covering-try-requires : tie.Need-covering-try-requires

@@ -4,7 +4,7 @@ use Rattle.capi.proofs.members.dralovika_debug.Tie as tie
 use Rattle.capi.proofs.members.dralovika_debug.Reads as reads
 use Rattle.capi.proofs.members.dralovika_debug.Lts as lts
 use Rattle.answer_rows.proofs.debug_row.Reads as debug-row-reads
-use Rattle.class_readers.proofs.debug.Reads as debug-reads
+use Rattle.debug_readers.proofs.debug.Reads as debug-reads
 
 -- src/members.rt:93:35
 debug-requires : tie.Need-debug-requires

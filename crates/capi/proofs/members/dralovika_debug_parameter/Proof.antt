@@ -4,7 +4,7 @@ use Rattle.capi.proofs.members.dralovika_debug_parameter.Tie as tie
 use Rattle.capi.proofs.members.dralovika_debug_parameter.Reads as reads
 use Rattle.capi.proofs.members.dralovika_debug_parameter.Lts as lts
 use Rattle.answer_rows.proofs.name_row.Reads as name-row-reads
-use Rattle.class_readers.proofs.debug_parameter.Reads as debug-parameter-reads
+use Rattle.debug_readers.proofs.debug_parameter.Reads as debug-parameter-reads
 
 -- src/members.rt:101:34
 debug-parameter-requires : tie.Need-debug-parameter-requires

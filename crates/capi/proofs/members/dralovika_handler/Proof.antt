@@ -4,7 +4,7 @@ use Rattle.capi.proofs.members.dralovika_handler.Tie as tie
 use Rattle.capi.proofs.members.dralovika_handler.Reads as reads
 use Rattle.capi.proofs.members.dralovika_handler.Lts as lts
 use Rattle.answer_rows.proofs.handler_row.Reads as handler-row-reads
-use Rattle.class_readers.proofs.handler.Reads as handler-reads
+use Rattle.code_readers.proofs.handler.Reads as handler-reads
 
 -- src/members.rt:77:37
 handler-requires : tie.Need-handler-requires

@@ -4,7 +4,7 @@ use Rattle.capi.proofs.members.dralovika_handler_count.Tie as tie
 use Rattle.capi.proofs.members.dralovika_handler_count.Reads as reads
 use Rattle.capi.proofs.members.dralovika_handler_count.Lts as lts
 use Rattle.answer_rows.proofs.written_row.Reads as written-row-reads
-use Rattle.class_readers.proofs.handler_count.Reads as handler-count-reads
+use Rattle.code_readers.proofs.handler_count.Reads as handler-count-reads
 
 -- src/members.rt:70:37
 handler-count-requires : tie.Need-handler-count-requires

@@ -4,7 +4,7 @@ use Rattle.capi.proofs.members.dralovika_handler_pair.Tie as tie
 use Rattle.capi.proofs.members.dralovika_handler_pair.Reads as reads
 use Rattle.capi.proofs.members.dralovika_handler_pair.Lts as lts
 use Rattle.answer_rows.proofs.pair_row.Reads as pair-row-reads
-use Rattle.class_readers.proofs.handler_pair.Reads as handler-pair-reads
+use Rattle.code_readers.proofs.handler_pair.Reads as handler-pair-reads
 
 -- src/members.rt:85:34
 handler-pair-requires : tie.Need-handler-pair-requires

@@ -4,7 +4,7 @@ use Rattle.capi.proofs.members.dralovika_try_item.Tie as tie
 use Rattle.capi.proofs.members.dralovika_try_item.Reads as reads
 use Rattle.capi.proofs.members.dralovika_try_item.Lts as lts
 use Rattle.answer_rows.proofs.try_row.Reads as try-row-reads
-use Rattle.class_readers.proofs.try_item.Reads as try-item-reads
+use Rattle.code_readers.proofs.try_item.Reads as try-item-reads
 
 -- src/members.rt:55:33
 try-item-requires : tie.Need-try-item-requires

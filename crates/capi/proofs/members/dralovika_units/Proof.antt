@@ -4,7 +4,7 @@ use Rattle.capi.proofs.members.dralovika_units.Tie as tie
 use Rattle.capi.proofs.members.dralovika_units.Reads as reads
 use Rattle.capi.proofs.members.dralovika_units.Lts as lts
 use Rattle.answer_rows.proofs.written_row.Reads as written-row-reads
-use Rattle.class_readers.proofs.units.Reads as units-reads
+use Rattle.code_readers.proofs.units.Reads as units-reads
 
 -- src/members.rt:48:37
 units-requires : tie.Need-units-requires

@@ -3,7 +3,7 @@ use Rattle.capi.proofs.notes.dralovika_annotation.Statement.{statement}
 use Rattle.capi.proofs.notes.dralovika_annotation.Tie as tie
 use Rattle.capi.proofs.notes.dralovika_annotation.Reads as reads
 use Rattle.capi.proofs.notes.dralovika_annotation.Lts as lts
-use Rattle.annotation_readers.proofs.annotation.Reads as annotation-reads
+use Rattle.value_readers.proofs.annotation.Reads as annotation-reads
 use Rattle.answer_rows.proofs.annotation_row.Reads as annotation-row-reads
 
 -- src/notes.rt:107:40

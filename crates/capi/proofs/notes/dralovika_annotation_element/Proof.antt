@@ -3,7 +3,7 @@ use Rattle.capi.proofs.notes.dralovika_annotation_element.Statement.{st
 use Rattle.capi.proofs.notes.dralovika_annotation_element.Tie as tie
 use Rattle.capi.proofs.notes.dralovika_annotation_element.Reads as reads
 use Rattle.capi.proofs.notes.dralovika_annotation_element.Lts as lts
-use Rattle.annotation_readers.proofs.annotation_element.Reads as annotation-element-reads
+use Rattle.value_readers.proofs.annotation_element.Reads as annotation-element-reads
 use Rattle.answer_rows.proofs.element_row.Reads as element-row-reads
 
 -- src/notes.rt:114:37

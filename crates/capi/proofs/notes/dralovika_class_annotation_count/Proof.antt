@@ -3,7 +3,7 @@ use Rattle.capi.proofs.notes.dralovika_class_annotation_count.Statement
 use Rattle.capi.proofs.notes.dralovika_class_annotation_count.Tie as tie
 use Rattle.capi.proofs.notes.dralovika_class_annotation_count.Reads as reads
 use Rattle.capi.proofs.notes.dralovika_class_annotation_count.Lts as lts
-use Rattle.annotation_readers.proofs.class_annotation_count.Reads as class-annotation-count-reads
+use Rattle.set_readers.proofs.class_annotation_count.Reads as class-annotation-count-reads
 use Rattle.answer_rows.proofs.word_row.Reads as word-row-reads
 
 -- src/notes.rt:42:34

@@ -3,7 +3,7 @@ use Rattle.capi.proofs.notes.dralovika_directory.Statement.{statement}
 use Rattle.capi.proofs.notes.dralovika_directory.Tie as tie
 use Rattle.capi.proofs.notes.dralovika_directory.Reads as reads
 use Rattle.capi.proofs.notes.dralovika_directory.Lts as lts
-use Rattle.annotation_readers.proofs.directory.Reads as directory-reads
+use Rattle.directory_readers.proofs.directory.Reads as directory-reads
 use Rattle.answer_rows.proofs.directory_row.Reads as directory-row-reads
 
 -- src/notes.rt:12:39

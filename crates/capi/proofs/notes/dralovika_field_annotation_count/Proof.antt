@@ -3,7 +3,7 @@ use Rattle.capi.proofs.notes.dralovika_field_annotation_count.Statement
 use Rattle.capi.proofs.notes.dralovika_field_annotation_count.Tie as tie
 use Rattle.capi.proofs.notes.dralovika_field_annotation_count.Reads as reads
 use Rattle.capi.proofs.notes.dralovika_field_annotation_count.Lts as lts
-use Rattle.annotation_readers.proofs.field_annotation_count.Reads as field-annotation-count-reads
+use Rattle.set_readers.proofs.field_annotation_count.Reads as field-annotation-count-reads
 use Rattle.answer_rows.proofs.word_row.Reads as word-row-reads
 
 -- src/notes.rt:56:34

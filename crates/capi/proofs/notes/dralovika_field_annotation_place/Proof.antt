@@ -3,7 +3,7 @@ use Rattle.capi.proofs.notes.dralovika_field_annotation_place.Statement
 use Rattle.capi.proofs.notes.dralovika_field_annotation_place.Tie as tie
 use Rattle.capi.proofs.notes.dralovika_field_annotation_place.Reads as reads
 use Rattle.capi.proofs.notes.dralovika_field_annotation_place.Lts as lts
-use Rattle.annotation_readers.proofs.field_annotation_place.Reads as field-annotation-place-reads
+use Rattle.set_readers.proofs.field_annotation_place.Reads as field-annotation-place-reads
 use Rattle.answer_rows.proofs.word_row.Reads as word-row-reads
 
 -- src/notes.rt:63:34

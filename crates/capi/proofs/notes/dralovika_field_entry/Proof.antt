@@ -3,7 +3,7 @@ use Rattle.capi.proofs.notes.dralovika_field_entry.Statement.{statement
 use Rattle.capi.proofs.notes.dralovika_field_entry.Tie as tie
 use Rattle.capi.proofs.notes.dralovika_field_entry.Reads as reads
 use Rattle.capi.proofs.notes.dralovika_field_entry.Lts as lts
-use Rattle.annotation_readers.proofs.field_entry.Reads as field-entry-reads
+use Rattle.directory_readers.proofs.field_entry.Reads as field-entry-reads
 use Rattle.answer_rows.proofs.place_row.Reads as place-row-reads
 
 -- src/notes.rt:20:35

@@ -3,7 +3,7 @@ use Rattle.capi.proofs.notes.dralovika_method_annotation_count.Statemen
 use Rattle.capi.proofs.notes.dralovika_method_annotation_count.Tie as tie
 use Rattle.capi.proofs.notes.dralovika_method_annotation_count.Reads as reads
 use Rattle.capi.proofs.notes.dralovika_method_annotation_count.Lts as lts
-use Rattle.annotation_readers.proofs.method_annotation_count.Reads as method-annotation-count-reads
+use Rattle.set_readers.proofs.method_annotation_count.Reads as method-annotation-count-reads
 use Rattle.answer_rows.proofs.word_row.Reads as word-row-reads
 
 -- src/notes.rt:70:34

@@ -3,7 +3,7 @@ use Rattle.capi.proofs.notes.dralovika_method_annotation_place.Statemen
 use Rattle.capi.proofs.notes.dralovika_method_annotation_place.Tie as tie
 use Rattle.capi.proofs.notes.dralovika_method_annotation_place.Reads as reads
 use Rattle.capi.proofs.notes.dralovika_method_annotation_place.Lts as lts
-use Rattle.annotation_readers.proofs.method_annotation_place.Reads as method-annotation-place-reads
+use Rattle.set_readers.proofs.method_annotation_place.Reads as method-annotation-place-reads
 use Rattle.answer_rows.proofs.word_row.Reads as word-row-reads
 
 -- src/notes.rt:77:34

@@ -3,7 +3,7 @@ use Rattle.capi.proofs.notes.dralovika_method_entry.Statement.{statemen
 use Rattle.capi.proofs.notes.dralovika_method_entry.Tie as tie
 use Rattle.capi.proofs.notes.dralovika_method_entry.Reads as reads
 use Rattle.capi.proofs.notes.dralovika_method_entry.Lts as lts
-use Rattle.annotation_readers.proofs.method_entry.Reads as method-entry-reads
+use Rattle.directory_readers.proofs.method_entry.Reads as method-entry-reads
 use Rattle.answer_rows.proofs.place_row.Reads as place-row-reads
 
 -- src/notes.rt:27:35

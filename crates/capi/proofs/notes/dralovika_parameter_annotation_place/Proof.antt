@@ -3,7 +3,7 @@ use Rattle.capi.proofs.notes.dralovika_parameter_annotation_place.State
 use Rattle.capi.proofs.notes.dralovika_parameter_annotation_place.Tie as tie
 use Rattle.capi.proofs.notes.dralovika_parameter_annotation_place.Reads as reads
 use Rattle.capi.proofs.notes.dralovika_parameter_annotation_place.Lts as lts
-use Rattle.annotation_readers.proofs.parameter_annotation_place.Reads as parameter-annotation-place-reads
+use Rattle.set_readers.proofs.parameter_annotation_place.Reads as parameter-annotation-place-reads
 use Rattle.answer_rows.proofs.word_row.Reads as word-row-reads
 
 -- src/notes.rt:99:34

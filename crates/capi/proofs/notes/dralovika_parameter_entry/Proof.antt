@@ -3,7 +3,7 @@ use Rattle.capi.proofs.notes.dralovika_parameter_entry.Statement.{state
 use Rattle.capi.proofs.notes.dralovika_parameter_entry.Tie as tie
 use Rattle.capi.proofs.notes.dralovika_parameter_entry.Reads as reads
 use Rattle.capi.proofs.notes.dralovika_parameter_entry.Lts as lts
-use Rattle.annotation_readers.proofs.parameter_entry.Reads as parameter-entry-reads
+use Rattle.directory_readers.proofs.parameter_entry.Reads as parameter-entry-reads
 use Rattle.answer_rows.proofs.place_row.Reads as place-row-reads
 
 -- src/notes.rt:34:35

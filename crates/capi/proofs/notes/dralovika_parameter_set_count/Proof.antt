@@ -3,7 +3,7 @@ use Rattle.capi.proofs.notes.dralovika_parameter_set_count.Statement.{s
 use Rattle.capi.proofs.notes.dralovika_parameter_set_count.Tie as tie
 use Rattle.capi.proofs.notes.dralovika_parameter_set_count.Reads as reads
 use Rattle.capi.proofs.notes.dralovika_parameter_set_count.Lts as lts
-use Rattle.annotation_readers.proofs.parameter_set_count.Reads as parameter-set-count-reads
+use Rattle.set_readers.proofs.parameter_set_count.Reads as parameter-set-count-reads
 use Rattle.answer_rows.proofs.word_row.Reads as word-row-reads
 
 -- src/notes.rt:85:34

@@ -1,4 +1,0 @@
-pub mod Directories
-pub mod Sets
-pub mod Items
-pub mod Answers

@@ -1,0 +1,28 @@
+use Rattle.code_readers.proofs.Laws.{under-laws as laws}
+use Rattle.code_readers.specs.Code.{coverUnder}
+use Rattle.code_readers.proofs.methods.cover_under.Statement.{statement}
+use Rattle.code_readers.proofs.methods.cover_under.Tie as tie
+use Rattle.code_readers.proofs.methods.cover_under.Reads as reads
+use Rattle.code_readers.proofs.methods.cover_under.Lts as lts
+use Rattle.header.proofs.section_of.Reads as section-of-reads
+use Rattle.header.proofs.frame_of.Reads as frame-of-reads
+use Rattle.code_item.proofs.covering_try.Reads as covering-try-reads
+
+section-of-requires : tie.Need-section-of-requires
+section-of-requires c κs = search laws
+
+frame-of-requires : tie.Need-frame-of-requires
+frame-of-requires c κs = search laws
+
+cast-covering-try : tie.Need-cast-covering-try
+cast-covering-try c = search laws
+
+covering-try-requires : tie.Need-covering-try-requires
+covering-try-requires c κs = search laws
+
+returns : tie.Need-returns
+unfolding coverUnder
+returns c = search laws
+
+pub cover-under-spec : {M : Type 1} → statement M
+cover-under-spec = tie.close (tie.spec section-of-requires frame-of-requires cast-covering-try covering-try-requires returns)

@@ -1,0 +1,38 @@
+use Rattle.class_readers.proofs.SpotLaws.{laws}
+use Rattle.code_readers.specs.Code.{handlerNumber}
+use Rattle.code_readers.proofs.methods.handler.Statement.{statement}
+use Rattle.code_readers.proofs.methods.handler.Tie as tie
+use Rattle.code_readers.proofs.methods.handler.Reads as reads
+use Rattle.code_readers.proofs.methods.handler.Lts as lts
+use Rattle.class_readers.proofs.method_spot.Reads as method-spot-reads
+use Rattle.code_readers.proofs.methods.handler_under.Reads as handler-under-reads
+
+method-spot-requires : tie.Need-method-spot-requires
+method-spot-requires c κs = search laws
+
+enum-known-r : tie.Need-enum-known-r
+enum-known-r c = search laws
+
+enum-told : tie.Need-enum-told
+enum-told c = search laws
+
+enum-known-s : tie.Need-enum-known-s
+enum-known-s c = search laws
+
+handler-under-requires : tie.Need-handler-under-requires
+handler-under-requires c κs = search laws
+
+returns : tie.Need-returns
+unfolding handlerNumber
+returns c = search laws
+
+returns-2 : tie.Need-returns-2
+unfolding handlerNumber
+returns-2 c = search laws
+
+returns-3 : tie.Need-returns-3
+unfolding handlerNumber
+returns-3 c = search laws
+
+pub handler-spec : {M : Type 1} → statement M
+handler-spec = tie.close (tie.spec method-spot-requires enum-known-r enum-told enum-known-s handler-under-requires returns returns-2 returns-3)

@@ -1,0 +1,38 @@
+use Rattle.class_readers.proofs.SpotLaws.{under-laws as laws}
+use Rattle.code_readers.specs.Code.{outlineUnder}
+use Rattle.code_readers.proofs.methods.outline_under.Statement.{statement}
+use Rattle.code_readers.proofs.methods.outline_under.Tie as tie
+use Rattle.code_readers.proofs.methods.outline_under.Reads as reads
+use Rattle.code_readers.proofs.methods.outline_under.Lts as lts
+use Rattle.header.proofs.section_of.Reads as section-of-reads
+use Rattle.header.proofs.frame_of.Reads as frame-of-reads
+use Rattle.code_item.proofs.code_at.Reads as code-at-reads
+
+section-of-requires : tie.Need-section-of-requires
+section-of-requires c κs = search laws
+
+frame-of-requires : tie.Need-frame-of-requires
+frame-of-requires c κs = search laws
+
+cast-code-at : tie.Need-cast-code-at
+cast-code-at c = search laws
+
+code-at-requires : tie.Need-code-at-requires
+code-at-requires c κs = search laws
+
+enum-known-r : tie.Need-enum-known-r
+enum-known-r c = search laws
+
+enum-known-o : tie.Need-enum-known-o
+enum-known-o c = search laws
+
+returns : tie.Need-returns
+unfolding outlineUnder
+returns c = search laws
+
+returns-2 : tie.Need-returns-2
+unfolding outlineUnder
+returns-2 c = search laws
+
+pub outline-under-spec : {M : Type 1} → statement M
+outline-under-spec = tie.close (tie.spec section-of-requires frame-of-requires cast-code-at code-at-requires enum-known-r enum-known-o returns returns-2)

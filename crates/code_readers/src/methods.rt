@@ -1,0 +1,209 @@
+// The code of a method: its sizes and counts, its units, its tries and handlers.
+use super::MaybeCode;
+use super::MaybeHandler;
+use super::MaybePair;
+use super::MaybeTry;
+use class_readers::MaybeCount;
+use class_readers::Spot;
+use class_readers::SpotAnswer;
+use code_item::CodeAnswer;
+use code_item::Cover;
+use code_item::CoverAnswer;
+use code_item::HandlerAnswer;
+use code_item::PairAnswer;
+use code_item::TryAnswer;
+use code_units::UnitsAnswer;
+ghost use mathlib.Core.Path.{_≡_};
+ghost use lib.ListN.{length};
+ghost use Rattle.code_item.specs.Answers.{cover-outcome};
+ghost use Rattle.code_readers.specs.Code.{outlineUnder, codeOf, tryUnder, tryNumber, coverUnder, coveringTry, handlerCount, handlerUnder, handlerNumber, pairUnder, handlerPair};
+ghost use Rattle.code_readers.specs.Code.{unitsInto, unitsWritten, unitsUnder, unitsOf, unitsOver, unitsContent, codeIn};
+ghost use Rattle.class_readers.specs.Answers.{maybe-count};
+ghost use Rattle.code_readers.specs.Answers.{maybe-code, maybe-try, maybe-handler, maybe-pair};
+
+fn outline_under(f: &[u8], s: Spot) -> MaybeCode
+    ensures { λ r. ⌜ maybe-code r ≡ outlineUnder (now (f .entry)) s ⌝ }
+{
+    let h = s.header;
+    match code_item::code_at(
+        header::section_of(f, h),
+        header::frame_of(h, 0),
+        s.place as usize,
+    ) {
+        CodeAnswer::Refused(r) => MaybeCode::Refused(r),
+        CodeAnswer::Got(o) => MaybeCode::Got(o),
+    }
+}
+
+// The sizes, counts and places of the code of method k of a list of class c.
+pub fn code(f: &[u8], c: u32, list: u32, k: u32) -> MaybeCode
+    ensures { λ r. ⌜ maybe-code r ≡ codeOf (now (f .entry)) c list k ⌝ }
+{
+    match class_readers::method_spot(f, c, list, k) {
+        SpotAnswer::Refused(r) => MaybeCode::Refused(r),
+        SpotAnswer::Absent => MaybeCode::Absent,
+        SpotAnswer::Got(s) => outline_under(f, s),
+    }
+}
+
+// How many handlers it has.
+pub fn handler_count(f: &[u8], c: u32, list: u32, k: u32) -> MaybeCount
+    ensures { λ r. ⌜ maybe-count r ≡ handlerCount (now (f .entry)) c list k ⌝ }
+{
+    match code(f, c, list, k) {
+        MaybeCode::Refused(r) => MaybeCount::Refused(r),
+        MaybeCode::Absent => MaybeCount::Absent,
+        MaybeCode::Got(o) => MaybeCount::Got(o.handlers as usize),
+    }
+}
+
+fn try_under(f: &[u8], s: Spot, t: u32) -> MaybeTry
+    ensures { λ r. ⌜ maybe-try r ≡ tryUnder (now (f .entry)) t s ⌝ }
+{
+    let h = s.header;
+    match code_item::try_at(
+        header::section_of(f, h),
+        header::frame_of(h, 0),
+        s.place as usize,
+        t,
+    ) {
+        TryAnswer::Refused(r) => MaybeTry::Refused(r),
+        TryAnswer::Got { attempt, number } => MaybeTry::Got { attempt, number },
+    }
+}
+
+// Try t of it.
+pub fn try_item(f: &[u8], c: u32, list: u32, k: u32, t: u32) -> MaybeTry
+    ensures { λ r. ⌜ maybe-try r ≡ tryNumber (now (f .entry)) c list k t ⌝ }
+{
+    match class_readers::method_spot(f, c, list, k) {
+        SpotAnswer::Refused(r) => MaybeTry::Refused(r),
+        SpotAnswer::Absent => MaybeTry::Absent,
+        SpotAnswer::Got(s) => try_under(f, s, t),
+    }
+}
+
+fn cover_under(f: &[u8], s: Spot, address: u32) -> CoverAnswer
+    ensures { λ r. ⌜ cover-outcome r ≡ coverUnder (now (f .entry)) address s ⌝ }
+{
+    let h = s.header;
+    code_item::covering_try(
+        header::section_of(f, h),
+        header::frame_of(h, 0),
+        s.place as usize,
+        address,
+    )
+}
+
+// The number of its try that covers an address; where there is no code, no try does.
+pub fn covering_try(f: &[u8], c: u32, list: u32, k: u32, address: u32) -> CoverAnswer
+    ensures { λ r. ⌜ cover-outcome r ≡ coveringTry (now (f .entry)) c list k address ⌝ }
+{
+    match class_readers::method_spot(f, c, list, k) {
+        SpotAnswer::Refused(r) => CoverAnswer::Refused(r),
+        SpotAnswer::Absent => CoverAnswer::Got(Cover::Nothing),
+        SpotAnswer::Got(s) => cover_under(f, s, address),
+    }
+}
+
+fn handler_under(f: &[u8], s: Spot, number: u32) -> MaybeHandler
+    ensures { λ r. ⌜ maybe-handler r ≡ handlerUnder (now (f .entry)) number s ⌝ }
+{
+    let h = s.header;
+    match code_item::handler_at(
+        header::section_of(f, h),
+        header::frame_of(h, 0),
+        s.place as usize,
+        number,
+    ) {
+        HandlerAnswer::Refused(r) => MaybeHandler::Refused(r),
+        HandlerAnswer::Got { offset, pairs, all } => MaybeHandler::Got { offset, pairs, all },
+    }
+}
+
+// A handler of it.
+pub fn handler(f: &[u8], c: u32, list: u32, k: u32, number: u32) -> MaybeHandler
+    ensures { λ r. ⌜ maybe-handler r ≡ handlerNumber (now (f .entry)) c list k number ⌝ }
+{
+    match class_readers::method_spot(f, c, list, k) {
+        SpotAnswer::Refused(r) => MaybeHandler::Refused(r),
+        SpotAnswer::Absent => MaybeHandler::Absent,
+        SpotAnswer::Got(s) => handler_under(f, s, number),
+    }
+}
+
+fn pair_under(f: &[u8], s: Spot, number: u32, p: u32) -> MaybePair
+    ensures { λ r. ⌜ maybe-pair r ≡ pairUnder (now (f .entry)) number p s ⌝ }
+{
+    let h = s.header;
+    match code_item::pair_at(
+        header::section_of(f, h),
+        header::frame_of(h, 0),
+        s.place as usize,
+        number,
+        p,
+    ) {
+        PairAnswer::Refused(r) => MaybePair::Refused(r),
+        PairAnswer::Got(pair) => MaybePair::Got(pair),
+    }
+}
+
+// Pair p of a handler of it.
+pub fn handler_pair(f: &[u8], c: u32, list: u32, k: u32, number: u32, p: u32) -> MaybePair
+    ensures { λ r. ⌜ maybe-pair r ≡ handlerPair (now (f .entry)) c list k number p ⌝ }
+{
+    match class_readers::method_spot(f, c, list, k) {
+        SpotAnswer::Refused(r) => MaybePair::Refused(r),
+        SpotAnswer::Absent => MaybePair::Absent,
+        SpotAnswer::Got(s) => pair_under(f, s, number, p),
+    }
+}
+
+// So many units of the code at a place.
+fn units_into(f: &[u8], s: Spot, count: u32, out: &mut [u16]) -> MaybeCount
+    ensures answer { λ r. ⌜ maybe-count r ≡ unitsInto (now (f .entry)) s count (length (now (out .entry))) ⌝ }
+    ensures content { λ r. ⌜ now (out .exit) ≡ unitsWritten (now (f .entry)) s count (now (out .entry)) ⌝ }
+{
+    let h = s.header;
+    let order = h.order;
+    match code_units::units_into(
+        header::section_of(f, h),
+        order,
+        s.place as usize + 16,
+        count,
+        out,
+    ) {
+        UnitsAnswer::Refused(r) => MaybeCount::Refused(r),
+        UnitsAnswer::Written(n) => MaybeCount::Got(n as usize),
+    }
+}
+
+fn units_under(f: &[u8], s: Spot, out: &mut [u16]) -> MaybeCount
+    ensures answer { λ r. ⌜ maybe-count r ≡ unitsUnder (now (f .entry)) (length (now (out .entry))) s ⌝ }
+    ensures content { λ r. ⌜ now (out .exit) ≡ unitsOver (codeIn (now (f .entry)) s) (now (out .entry)) ⌝ }
+{
+    let h = s.header;
+    match code_item::code_at(
+        header::section_of(f, h),
+        header::frame_of(h, 0),
+        s.place as usize,
+    ) {
+        CodeAnswer::Refused(r) => MaybeCount::Refused(r),
+        CodeAnswer::Got(o) => {
+            let head = o.head;
+            units_into(f, s, head.units, out)
+        }
+    }
+}
+
+// Its units in a lent output: how many; 19, writing nothing, where the output is shorter.
+pub fn units(f: &[u8], c: u32, list: u32, k: u32, out: &mut [u16]) -> MaybeCount
+    ensures answer { λ r. ⌜ maybe-count r ≡ unitsOf (now (f .entry)) c list k (length (now (out .entry))) ⌝ }
+    ensures content { λ r. ⌜ now (out .exit) ≡ unitsContent (now (f .entry)) c list k (now (out .entry)) ⌝ }
+{
+    match class_readers::method_spot(f, c, list, k) {
+        SpotAnswer::Refused(r) => MaybeCount::Refused(r),
+        SpotAnswer::Absent => MaybeCount::Absent,
+        SpotAnswer::Got(s) => units_under(f, s, out),
+    }
+}

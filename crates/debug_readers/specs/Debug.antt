@@ -1,0 +1,45 @@
+-- The debug information of a method as readings: where there is none, none.
+use Prim.Native.Nat.{ℕ}
+use mathlib.Core.Option.{Option, none, some}
+use mathlib.Core.List.{List, []}
+use Rattle.refusal.specs.Outcome.{Outcome, answer, refused, _>>=_}
+use Rattle.header.specs.Header.{section}
+use Rattle.debug_info.specs.Debug as D
+use Rattle.class_readers.specs.declared.Spot.{Spot}
+use Rattle.class_readers.specs.Spots.{onward, debugSpot}
+
+-- the whole, as the bytes say it
+unfoldable pub wholeUnder : List ℕ → Spot → Outcome (Option D.Debug)
+wholeUnder f s = do
+  d ← D.debugAt (section f (s .header)) (s .header .strings .count) (s .place)
+  answer (some d)
+
+unfoldable pub debugWhole : List ℕ → ℕ → ℕ → ℕ → Outcome (Option D.Debug)
+debugWhole f c list k = debugSpot f c list k >>= onward (wholeUnder f)
+
+-- the starting line, how many names, and where the program lies
+unfoldable pub extentUnder : List ℕ → Spot → Outcome (Option D.Extent)
+extentUnder f s = do
+  e ← D.extentAt (section f (s .header)) (s .header .strings .count) (s .place)
+  answer (some e)
+
+unfoldable pub debugOf : List ℕ → ℕ → ℕ → ℕ → Outcome (Option D.Extent)
+debugOf f c list k = debugSpot f c list k >>= onward (extentUnder f)
+
+-- name p: a string's number, or no name
+unfoldable pub nameUnder : List ℕ → ℕ → Spot → Outcome (Option (Option ℕ))
+nameUnder f p s = do
+  n ← D.nameOf (section f (s .header)) (s .header .strings .count) (s .place) p
+  answer (some n)
+
+unfoldable pub parameterName : List ℕ → ℕ → ℕ → ℕ → ℕ → Outcome (Option (Option ℕ))
+parameterName f c list k p = debugSpot f c list k >>= onward (nameUnder f p)
+
+-- "a line program that ends at the first zero byte, handed back without it": no bytes where there is none, or it is refused
+unfoldable pub programOf : Outcome (Option D.Debug) → List ℕ
+programOf (answer none) = []
+programOf (answer (some d)) = d .program
+programOf (refused r) = []
+
+unfoldable pub lineProgram : List ℕ → ℕ → ℕ → ℕ → List ℕ
+lineProgram f c list k = programOf (debugWhole f c list k)

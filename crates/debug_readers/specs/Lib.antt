@@ -1,0 +1,2 @@
+pub mod Debug
+pub mod Answers

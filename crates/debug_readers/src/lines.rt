@@ -1,0 +1,80 @@
+// The debug information of a method's code.
+use super::MaybeDebug;
+use super::MaybeName;
+use class_readers::Spot;
+use class_readers::SpotAnswer;
+use debug_info::DebugAnswer;
+use debug_info::NameAnswer;
+ghost use mathlib.Core.Path.{_≡_};
+ghost use Rattle.debug_readers.specs.Debug.{extentUnder, debugOf, nameUnder, parameterName, lineProgram};
+ghost use Rattle.debug_readers.specs.Answers.{maybe-debug, maybe-name};
+
+fn extent_under(f: &[u8], s: Spot) -> MaybeDebug
+    ensures { λ r. ⌜ maybe-debug r ≡ extentUnder (now (f .entry)) s ⌝ }
+{
+    let h = s.header;
+    let strings = h.strings;
+    match debug_info::debug_at(header::section_of(f, h), strings.count, s.place as usize) {
+        DebugAnswer::Refused(r) => MaybeDebug::Refused(r),
+        DebugAnswer::Got {
+            line,
+            names,
+            start,
+            length,
+        } => MaybeDebug::Got {
+            line,
+            names,
+            start,
+            length,
+        },
+    }
+}
+
+// The starting line of the code of method k of a list of class c, how many names, and where the line program lies.
+pub fn debug(f: &[u8], c: u32, list: u32, k: u32) -> MaybeDebug
+    ensures { λ r. ⌜ maybe-debug r ≡ debugOf (now (f .entry)) c list k ⌝ }
+{
+    match class_readers::debug_spot(f, c, list, k) {
+        SpotAnswer::Refused(r) => MaybeDebug::Refused(r),
+        SpotAnswer::Absent => MaybeDebug::Absent,
+        SpotAnswer::Got(s) => extent_under(f, s),
+    }
+}
+
+fn name_under(f: &[u8], s: Spot, p: u32) -> MaybeName
+    ensures { λ r. ⌜ maybe-name r ≡ nameUnder (now (f .entry)) p s ⌝ }
+{
+    let h = s.header;
+    let strings = h.strings;
+    match debug_info::name_at(header::section_of(f, h), strings.count, s.place as usize, p) {
+        NameAnswer::Refused(r) => MaybeName::Refused(r),
+        NameAnswer::Got(name) => MaybeName::Got(name),
+    }
+}
+
+// The name of parameter p: absent without debug information, else a string's number or no name.
+pub fn debug_parameter(f: &[u8], c: u32, list: u32, k: u32, p: u32) -> MaybeName
+    ensures { λ r. ⌜ maybe-name r ≡ parameterName (now (f .entry)) c list k p ⌝ }
+{
+    match class_readers::debug_spot(f, c, list, k) {
+        SpotAnswer::Refused(r) => MaybeName::Refused(r),
+        SpotAnswer::Absent => MaybeName::Absent,
+        SpotAnswer::Got(s) => name_under(f, s, p),
+    }
+}
+
+// The line program, no bytes where there is none or it is refused.
+pub fn line_program(f: &[u8], c: u32, list: u32, k: u32) -> &[u8]
+    ensures { λ r. ⌜ now r ≡ lineProgram (now (f .entry)) c list k ⌝ }
+{
+    match debug(f, c, list, k) {
+        MaybeDebug::Refused(_) => &f[0..0],
+        MaybeDebug::Absent => &f[0..0],
+        MaybeDebug::Got {
+            line: _,
+            names: _,
+            start,
+            length,
+        } => word::bytes_at(f, start, length),
+    }
+}

@@ -1,0 +1,37 @@
+-- What the proofs of the readers of directories cite.
+-- Assumes nothing.
+use Prim.Native.Nat.{ℕ}
+use mathlib.Core.Path.{_≡_, _∙_}
+use mathlib.Core.Option.{Option}
+use mathlib.Core.List.{List}
+use borrow.Author.Needs.{needs}
+use Rattle.refusal.specs.Outcome.{Outcome, _>>=_}
+use Rattle.refusal.proofs.Laws.{said, tests, calls}
+use Rattle.frame.specs.declared.Frame.{Frame}
+use Rattle.header.specs.declared.Header.{Header}
+use Rattle.header.specs.Header.{section, frame-of}
+use Rattle.header.proofs.Laws.{laws as header-laws}
+use Rattle.class_ids.proofs.Laws.{laws as class-laws}
+use Rattle.annotations.specs.declared.Head.{Head}
+use Rattle.annotations.specs.declared.HeadAnswer.{HeadAnswer}
+use Rattle.annotations.specs.Answers.{head-outcome}
+use Rattle.annotations.specs.Directories.{Entry, directoryHead, directoryEntry}
+use Rattle.directory_readers.specs.declared.Reached.{Reached}
+use Rattle.directory_readers.specs.declared.ReachedAnswer.{ReachedAnswer}
+use Rattle.directory_readers.specs.Answers.{reached-outcome}
+
+-- a call's answer, by the arm that was taken
+pub on-reached : {B : Type 0} {x c : ReachedAnswer} {o : Outcome Reached} {y : Outcome B} (k : Reached → Outcome B) → reached-outcome x ≡ o → x ≡ c → y ≡ (reached-outcome c >>= k) → y ≡ (o >>= k)
+on-reached = said reached-outcome
+
+-- a directory that was read in the file up to the data section's end, s, against the file's counts, r
+module _ (f : List ℕ) (h : Header) (handles item : ℕ) {s : List ℕ} {r : Frame} (e : s ≡ section f h) (g : r ≡ frame-of h handles) where
+  pub on-head : {B : Type 0} {x c : HeadAnswer} {y : Outcome B} (k : Head → Outcome B) → head-outcome x ≡ directoryHead s r item → x ≡ c → y ≡ (head-outcome c >>= k) → y ≡ (directoryHead (section f h) (frame-of h handles) item >>= k)
+  on-head k q = said head-outcome k (q ∙ (λ i. directoryHead (e i) (g i) item))
+
+  pub entry-framed : (list k : ℕ) {y : Outcome Entry} → y ≡ directoryEntry s r item list k → y ≡ directoryEntry (section f h) (frame-of h handles) item list k
+  entry-framed list k q = q ∙ (λ i. directoryEntry (e i) (g i) item list k)
+
+pub ruleset laws = (on-reached, header-laws, class-laws, calls, needs)
+
+pub ruleset framed = (on-head, entry-framed, calls, tests, needs)

@@ -1,0 +1,31 @@
+use Rattle.directory_readers.proofs.Laws.{framed as laws}
+use Rattle.directory_readers.specs.Directories.{entryIn}
+use Rattle.directory_readers.proofs.entry_in.Statement.{statement}
+use Rattle.directory_readers.proofs.entry_in.Tie as tie
+use Rattle.directory_readers.proofs.entry_in.Reads as reads
+use Rattle.directory_readers.proofs.entry_in.Lts as lts
+use Rattle.annotations.proofs.directory_entry.Reads as directory-entry-reads
+use Rattle.header.proofs.frame_of.Reads as frame-of-reads
+use Rattle.header.proofs.section_of.Reads as section-of-reads
+
+section-of-requires : tie.Need-section-of-requires
+section-of-requires c κs = search laws
+
+frame-of-requires : tie.Need-frame-of-requires
+frame-of-requires c κs = search laws
+
+directory-entry-requires : tie.Need-directory-entry-requires
+directory-entry-requires c κs = search laws
+
+returns : tie.Need-returns
+unfolding entryIn
+returns c = search laws
+
+returns-2 : tie.Need-returns-2
+unfolding entryIn
+returns-2 c = search laws
+
+pub entry-in-spec : {M : Type 1} → statement M
+entry-in-spec =
+    tie.close
+    (tie.spec section-of-requires frame-of-requires directory-entry-requires returns returns-2)

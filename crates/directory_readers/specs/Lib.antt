@@ -1,0 +1,2 @@
+pub mod Directories
+pub mod Answers

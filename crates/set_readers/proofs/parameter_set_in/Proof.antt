@@ -1,0 +1,44 @@
+use Rattle.set_readers.proofs.Laws.{framed as laws}
+use Rattle.set_readers.specs.Sets.{parameterSetIn}
+use Rattle.set_readers.proofs.parameter_set_in.Statement.{statement}
+use Rattle.set_readers.proofs.parameter_set_in.Tie as tie
+use Rattle.set_readers.proofs.parameter_set_in.Reads as reads
+use Rattle.set_readers.proofs.parameter_set_in.Lts as lts
+use Rattle.annotations.proofs.reference_offset.Reads as reference-offset-reads
+use Rattle.header.proofs.frame_of.Reads as frame-of-reads
+use Rattle.header.proofs.section_of.Reads as section-of-reads
+
+section-of-requires : tie.Need-section-of-requires
+section-of-requires c κs = search laws
+
+frame-of-requires : tie.Need-frame-of-requires
+frame-of-requires c κs = search laws
+
+reference-offset-requires : tie.Need-reference-offset-requires
+reference-offset-requires c κs = search laws
+
+enum-known-r : tie.Need-enum-known-r
+enum-known-r c = search laws
+
+enum-known-place : tie.Need-enum-known-place
+enum-known-place c = search laws
+
+returns : tie.Need-returns
+unfolding parameterSetIn
+returns c = search laws
+
+returns-2 : tie.Need-returns-2
+unfolding parameterSetIn
+returns-2 c = search laws
+
+pub parameter-set-in-spec : {M : Type 1} → statement M
+parameter-set-in-spec =
+    tie.close
+    (tie.spec
+    section-of-requires
+    frame-of-requires
+    reference-offset-requires
+    enum-known-r
+    enum-known-place
+    returns
+    returns-2)

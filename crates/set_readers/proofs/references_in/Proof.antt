@@ -1,0 +1,26 @@
+use Rattle.set_readers.proofs.Laws.{framed as laws}
+use Rattle.set_readers.specs.Sets.{referencesIn}
+use Rattle.set_readers.proofs.references_in.Statement.{statement}
+use Rattle.set_readers.proofs.references_in.Tie as tie
+use Rattle.set_readers.proofs.references_in.Reads as reads
+use Rattle.set_readers.proofs.references_in.Lts as lts
+use Rattle.annotations.proofs.reference_count.Reads as reference-count-reads
+use Rattle.header.proofs.frame_of.Reads as frame-of-reads
+use Rattle.header.proofs.section_of.Reads as section-of-reads
+
+section-of-requires : tie.Need-section-of-requires
+section-of-requires c κs = search laws
+
+frame-of-requires : tie.Need-frame-of-requires
+frame-of-requires c κs = search laws
+
+reference-count-requires : tie.Need-reference-count-requires
+reference-count-requires c κs = search laws
+
+returns : tie.Need-returns
+unfolding referencesIn
+returns c = search laws
+
+pub references-in-spec : {M : Type 1} → statement M
+references-in-spec =
+    tie.close (tie.spec section-of-requires frame-of-requires reference-count-requires returns)

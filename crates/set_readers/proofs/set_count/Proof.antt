@@ -1,0 +1,30 @@
+use Rattle.set_readers.proofs.Laws.{framed as laws}
+use Rattle.set_readers.specs.Sets.{setCount}
+use Rattle.set_readers.proofs.set_count.Statement.{statement}
+use Rattle.set_readers.proofs.set_count.Tie as tie
+use Rattle.set_readers.proofs.set_count.Reads as reads
+use Rattle.set_readers.proofs.set_count.Lts as lts
+use Rattle.annotations.proofs.set_count.Reads as set-count-reads
+use Rattle.header.proofs.frame_of.Reads as frame-of-reads
+use Rattle.header.proofs.section_of.Reads as section-of-reads
+
+section-of-requires : tie.Need-section-of-requires
+section-of-requires c κs = search laws
+
+frame-of-requires : tie.Need-frame-of-requires
+frame-of-requires c κs = search laws
+
+set-count-requires : tie.Need-set-count-requires
+set-count-requires c κs = search laws
+
+returns : tie.Need-returns
+unfolding setCount
+returns c = search laws
+
+returns-2 : tie.Need-returns-2
+unfolding setCount
+returns-2 c = search laws
+
+pub set-count-spec : {M : Type 1} → statement M
+set-count-spec =
+    tie.close (tie.spec section-of-requires frame-of-requires set-count-requires returns returns-2)

@@ -1,0 +1,31 @@
+use Rattle.set_readers.proofs.Laws.{framed as laws}
+use Rattle.set_readers.specs.Sets.{setNumber}
+use Rattle.set_readers.proofs.set_number.Statement.{statement}
+use Rattle.set_readers.proofs.set_number.Tie as tie
+use Rattle.set_readers.proofs.set_number.Reads as reads
+use Rattle.set_readers.proofs.set_number.Lts as lts
+use Rattle.annotations.proofs.set_offset.Reads as set-offset-reads
+use Rattle.header.proofs.frame_of.Reads as frame-of-reads
+use Rattle.header.proofs.section_of.Reads as section-of-reads
+
+section-of-requires : tie.Need-section-of-requires
+section-of-requires c κs = search laws
+
+frame-of-requires : tie.Need-frame-of-requires
+frame-of-requires c κs = search laws
+
+set-offset-requires : tie.Need-set-offset-requires
+set-offset-requires c κs = search laws
+
+returns : tie.Need-returns
+unfolding setNumber
+returns c = search laws
+
+returns-2 : tie.Need-returns-2
+unfolding setNumber
+returns-2 c = search laws
+
+pub set-number-spec : {M : Type 1} → statement M
+set-number-spec =
+    tie.close
+    (tie.spec section-of-requires frame-of-requires set-offset-requires returns returns-2)

@@ -1,0 +1,231 @@
+// The readers of annotations by number, each over a lent file: how many a set has, and where each is; the directory first, whole, then each item on the way,
+// each followed by 7 for its inner number. One piece serves the sets of class, field, method and parameter; a set that is absent is empty.
+use annotations::EntryAnswer;
+use annotations::Word;
+use directory_readers::DirectoryAnswer;
+use directory_readers::Reached;
+use directory_readers::ReachedAnswer;
+use header::Header;
+use refusal::Refusal;
+ghost use mathlib.Core.Path.{_≡_};
+ghost use Rattle.annotations.specs.Answers.{word-outcome};
+ghost use Rattle.set_readers.specs.Sets.{classSetIn, classSet, entrySetIn, entrySet, parameterSetIn, parameterSet};
+ghost use Rattle.set_readers.specs.Sets.{referencesIn, parameterSetCount, setCount, setNumber, countOf, placeOf};
+ghost use Rattle.directory_readers.specs.Answers.{reached-outcome};
+
+// Where the class's set is, by the directory at a place.
+fn class_set_in(f: &[u8], h: Header, at: u32) -> ReachedAnswer
+    ensures { λ r. ⌜ reached-outcome r ≡ classSetIn (now (f .entry)) h at ⌝ }
+{
+    match directory_readers::head_in(f, h, at) {
+        DirectoryAnswer::Refused(r) => ReachedAnswer::Refused(r),
+        DirectoryAnswer::Absent => ReachedAnswer::Got(Reached {
+            header: h,
+            place: 0,
+        }),
+        DirectoryAnswer::Got(head) => ReachedAnswer::Got(Reached {
+            header: h,
+            place: head.set,
+        }),
+    }
+}
+
+fn class_set(f: &[u8], c: u32) -> ReachedAnswer
+    ensures { λ r. ⌜ reached-outcome r ≡ classSet (now (f .entry)) c ⌝ }
+{
+    match directory_readers::directory_of(f, c) {
+        ReachedAnswer::Refused(r) => ReachedAnswer::Refused(r),
+        ReachedAnswer::Got(d) => {
+            let h = d.header;
+            class_set_in(f, h, d.place)
+        }
+    }
+}
+
+// Where entry e of a list leads to, by the directory at a place.
+fn entry_set_in(f: &[u8], h: Header, at: u32, list: u32, e: u32) -> ReachedAnswer
+    ensures { λ r. ⌜ reached-outcome r ≡ entrySetIn (now (f .entry)) h at list e ⌝ }
+{
+    match directory_readers::entry_in(f, h, at, list, e) {
+        EntryAnswer::Refused(r) => ReachedAnswer::Refused(r),
+        EntryAnswer::Got { index: _, offset } => ReachedAnswer::Got(Reached {
+            header: h,
+            place: offset,
+        }),
+    }
+}
+
+fn entry_set(f: &[u8], c: u32, list: u32, e: u32) -> ReachedAnswer
+    ensures { λ r. ⌜ reached-outcome r ≡ entrySet (now (f .entry)) c list e ⌝ }
+{
+    match directory_readers::directory_of(f, c) {
+        ReachedAnswer::Refused(r) => ReachedAnswer::Refused(r),
+        ReachedAnswer::Got(d) => {
+            let h = d.header;
+            entry_set_in(f, h, d.place, list, e)
+        }
+    }
+}
+
+// Where set p of the reference list at a place is, 0 where it is absent.
+fn parameter_set_in(f: &[u8], h: Header, at: u32, p: u32) -> ReachedAnswer
+    ensures { λ r. ⌜ reached-outcome r ≡ parameterSetIn (now (f .entry)) h at p ⌝ }
+{
+    match annotations::reference_offset(
+        header::section_of(f, h),
+        header::frame_of(h, 0),
+        at as usize,
+        p,
+    ) {
+        Word::Refused(r) => ReachedAnswer::Refused(r),
+        Word::Got(place) => ReachedAnswer::Got(Reached { header: h, place }),
+    }
+}
+
+fn parameter_set(f: &[u8], c: u32, e: u32, p: u32) -> ReachedAnswer
+    ensures { λ r. ⌜ reached-outcome r ≡ parameterSet (now (f .entry)) c e p ⌝ }
+{
+    match entry_set(f, c, 2, e) {
+        ReachedAnswer::Refused(r) => ReachedAnswer::Refused(r),
+        ReachedAnswer::Got(l) => {
+            let h = l.header;
+            parameter_set_in(f, h, l.place, p)
+        }
+    }
+}
+
+fn references_in(f: &[u8], h: Header, at: u32) -> Word
+    ensures { λ r. ⌜ word-outcome r ≡ referencesIn (now (f .entry)) h at ⌝ }
+{
+    annotations::reference_count(
+        header::section_of(f, h),
+        header::frame_of(h, 0),
+        at as usize,
+    )
+}
+
+// How many parameters, absent sets too, parameter entry e of class c has.
+pub fn parameter_set_count(f: &[u8], c: u32, e: u32) -> Word
+    ensures { λ r. ⌜ word-outcome r ≡ parameterSetCount (now (f .entry)) c e ⌝ }
+{
+    match entry_set(f, c, 2, e) {
+        ReachedAnswer::Refused(r) => Word::Refused(r),
+        ReachedAnswer::Got(l) => {
+            let h = l.header;
+            references_in(f, h, l.place)
+        }
+    }
+}
+
+// How many annotations the set at a place has, 0 where it is absent.
+fn set_count(f: &[u8], h: Header, at: u32) -> Word
+    ensures { λ r. ⌜ word-outcome r ≡ setCount (now (f .entry)) h at ⌝ }
+{
+    if 0 < at {
+        return annotations::set_count(
+            header::section_of(f, h),
+            header::frame_of(h, 0),
+            at as usize,
+        );
+    }
+    Word::Got(0)
+}
+
+fn set_number(f: &[u8], h: Header, at: u32, k: u32) -> Word
+    ensures { λ r. ⌜ word-outcome r ≡ setNumber (now (f .entry)) h at k ⌝ }
+{
+    if 0 < at {
+        return annotations::set_offset(
+            header::section_of(f, h),
+            header::frame_of(h, 0),
+            at as usize,
+            k,
+        );
+    }
+    Word::Refused(Refusal {
+        number: 7,
+        place: 0,
+    })
+}
+
+// How many annotations the set has that was reached.
+fn count_of(f: &[u8], set: ReachedAnswer) -> Word
+    ensures { λ r. ⌜ word-outcome r ≡ countOf (now (f .entry)) (reached-outcome set) ⌝ }
+{
+    match set {
+        ReachedAnswer::Refused(r) => Word::Refused(r),
+        ReachedAnswer::Got(s) => {
+            let h = s.header;
+            set_count(f, h, s.place)
+        }
+    }
+}
+
+// Where annotation k of the set is that was reached.
+fn place_of(f: &[u8], set: ReachedAnswer, k: u32) -> Word
+    ensures { λ r. ⌜ word-outcome r ≡ placeOf (now (f .entry)) (reached-outcome set) k ⌝ }
+{
+    match set {
+        ReachedAnswer::Refused(r) => Word::Refused(r),
+        ReachedAnswer::Got(s) => {
+            let h = s.header;
+            set_number(f, h, s.place, k)
+        }
+    }
+}
+
+// How many annotations class c has.
+pub fn class_annotation_count(f: &[u8], c: u32) -> Word
+    ensures { λ r. ⌜ word-outcome r ≡ countOf (now (f .entry)) (classSet (now (f .entry)) c) ⌝ }
+{
+    count_of(f, class_set(f, c))
+}
+
+// Where annotation k of class c is.
+pub fn class_annotation_place(f: &[u8], c: u32, k: u32) -> Word
+    ensures { λ r. ⌜ word-outcome r ≡ placeOf (now (f .entry)) (classSet (now (f .entry)) c) k ⌝ }
+{
+    place_of(f, class_set(f, c), k)
+}
+
+// How many annotations field entry e of class c has.
+pub fn field_annotation_count(f: &[u8], c: u32, e: u32) -> Word
+    ensures { λ r. ⌜ word-outcome r ≡ countOf (now (f .entry)) (entrySet (now (f .entry)) c 0 e) ⌝ }
+{
+    count_of(f, entry_set(f, c, 0, e))
+}
+
+// Where annotation k of field entry e of class c is.
+pub fn field_annotation_place(f: &[u8], c: u32, e: u32, k: u32) -> Word
+    ensures { λ r. ⌜ word-outcome r ≡ placeOf (now (f .entry)) (entrySet (now (f .entry)) c 0 e) k ⌝ }
+{
+    place_of(f, entry_set(f, c, 0, e), k)
+}
+
+// How many annotations method entry e of class c has.
+pub fn method_annotation_count(f: &[u8], c: u32, e: u32) -> Word
+    ensures { λ r. ⌜ word-outcome r ≡ countOf (now (f .entry)) (entrySet (now (f .entry)) c 1 e) ⌝ }
+{
+    count_of(f, entry_set(f, c, 1, e))
+}
+
+// Where annotation k of method entry e of class c is.
+pub fn method_annotation_place(f: &[u8], c: u32, e: u32, k: u32) -> Word
+    ensures { λ r. ⌜ word-outcome r ≡ placeOf (now (f .entry)) (entrySet (now (f .entry)) c 1 e) k ⌝ }
+{
+    place_of(f, entry_set(f, c, 1, e), k)
+}
+
+// How many annotations parameter p of parameter entry e of class c has.
+pub fn parameter_annotation_count(f: &[u8], c: u32, e: u32, p: u32) -> Word
+    ensures { λ r. ⌜ word-outcome r ≡ countOf (now (f .entry)) (parameterSet (now (f .entry)) c e p) ⌝ }
+{
+    count_of(f, parameter_set(f, c, e, p))
+}
+
+// Where annotation k of parameter p of parameter entry e of class c is.
+pub fn parameter_annotation_place(f: &[u8], c: u32, e: u32, p: u32, k: u32) -> Word
+    ensures { λ r. ⌜ word-outcome r ≡ placeOf (now (f .entry)) (parameterSet (now (f .entry)) c e p) k ⌝ }
+{
+    place_of(f, parameter_set(f, c, e, p), k)
+}

@@ -1,0 +1,39 @@
+use Rattle.value_readers.proofs.Laws.{placed as laws}
+use Rattle.value_readers.specs.Bodies.{arrayValueOf}
+use Rattle.value_readers.proofs.bodies.array_value.Statement.{statement}
+use Rattle.value_readers.proofs.bodies.array_value.Tie as tie
+use Rattle.value_readers.proofs.bodies.array_value.Reads as reads
+use Rattle.value_readers.proofs.bodies.array_value.Lts as lts
+use Rattle.value_readers.proofs.opening.open_within.Reads as open-within-reads
+use Rattle.header.proofs.section_of.Reads as section-of-reads
+use Rattle.value_readers.proofs.opening.walk_in.Reads as walk-in-reads
+use Rattle.value_bodies.proofs.array_value.Reads as array-value-reads
+
+open-within-requires : tie.Need-open-within-requires
+open-within-requires c κs = search laws
+
+enum-known-r : tie.Need-enum-known-r
+enum-known-r c = search laws
+
+enum-known-o : tie.Need-enum-known-o
+enum-known-o c = search laws
+
+section-of-requires : tie.Need-section-of-requires
+section-of-requires c κs = search laws
+
+walk-in-requires : tie.Need-walk-in-requires
+walk-in-requires c κs = search laws
+
+array-value-requires : tie.Need-array-value-requires
+array-value-requires c κs = search laws
+
+returns : tie.Need-returns
+unfolding arrayValueOf
+returns c = search laws
+
+returns-2 : tie.Need-returns-2
+unfolding arrayValueOf
+returns-2 c = search laws
+
+pub array-value-spec : {M : Type 1} → statement M
+array-value-spec = tie.close (tie.spec open-within-requires enum-known-r enum-known-o section-of-requires walk-in-requires array-value-requires returns returns-2)

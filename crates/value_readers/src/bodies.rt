@@ -1,0 +1,117 @@
+// Arrays and annotation bodies by place.
+use super::ArrayAnswer;
+use super::BodyAnswer;
+use encoded_value::Step;
+use encoded_value::Walk;
+use table_readers::OpenedAnswer;
+use value_bodies::Count;
+use value_bodies::Element;
+use value_bodies::Head;
+use value_bodies::Picked;
+ghost use mathlib.Core.Path.{_≡_};
+ghost use Rattle.value_bodies.specs.Answers.{picked-outcome, element-outcome};
+ghost use Rattle.value_readers.specs.Bodies.{arrayBody, notedBody, arrayOf, arrayValueOf, bodyOf, elementOf};
+ghost use Rattle.value_readers.specs.Answers.{array-outcome, body-outcome};
+
+// An array's size, and its length in bytes.
+fn array_body(s: &[u8], w: Walk, place: usize) -> ArrayAnswer
+    ensures { λ r. ⌜ array-outcome r ≡ arrayBody (now (s .entry)) w place ⌝ }
+{
+    match value_bodies::array_count(s, w, place) {
+        Count::Refused(r) => ArrayAnswer::Refused(r),
+        Count::Got(count) => match encoded_value::top_array(s, w, place) {
+            Step::Refused(r) => ArrayAnswer::Refused(r),
+            Step::Next(end) => ArrayAnswer::Got {
+                count,
+                length: end - place,
+            },
+        },
+    }
+}
+
+// The size of the array at a place, and its length in bytes.
+pub fn array(f: &[u8], place: usize) -> ArrayAnswer
+    ensures { λ r. ⌜ array-outcome r ≡ arrayOf (now (f .entry)) place ⌝ }
+{
+    match super::opening::open_within(f, place) {
+        OpenedAnswer::Refused(r) => ArrayAnswer::Refused(r),
+        OpenedAnswer::Got(o) => {
+            let h = o.header;
+            array_body(
+                header::section_of(f, h),
+                super::opening::walk_in(h, o.handles, place),
+                place,
+            )
+        }
+    }
+}
+
+// Value k of the array at a place.
+pub fn array_value(f: &[u8], place: usize, k: u32) -> Picked
+    ensures { λ r. ⌜ picked-outcome r ≡ arrayValueOf (now (f .entry)) place k ⌝ }
+{
+    match super::opening::open_within(f, place) {
+        OpenedAnswer::Refused(r) => Picked::Refused(r),
+        OpenedAnswer::Got(o) => {
+            let h = o.header;
+            value_bodies::array_value(
+                header::section_of(f, h),
+                super::opening::walk_in(h, o.handles, place),
+                place,
+                k,
+            )
+        }
+    }
+}
+
+// An annotation body's type and size, and its length in bytes.
+fn noted_body(s: &[u8], w: Walk, place: usize) -> BodyAnswer
+    ensures { λ r. ⌜ body-outcome r ≡ notedBody (now (s .entry)) w place ⌝ }
+{
+    match value_bodies::annotation_head(s, w, place) {
+        Head::Refused(r) => BodyAnswer::Refused(r),
+        Head::Got { type_index, count } => match encoded_value::top_annotation(s, w, place) {
+            Step::Refused(r) => BodyAnswer::Refused(r),
+            Step::Next(end) => BodyAnswer::Got {
+                type_index,
+                count,
+                length: end - place,
+            },
+        },
+    }
+}
+
+// The type and the size of the annotation body at a place, and its length in bytes.
+pub fn annotation_body(f: &[u8], place: usize) -> BodyAnswer
+    ensures { λ r. ⌜ body-outcome r ≡ bodyOf (now (f .entry)) place ⌝ }
+{
+    match super::opening::open_within(f, place) {
+        OpenedAnswer::Refused(r) => BodyAnswer::Refused(r),
+        OpenedAnswer::Got(o) => {
+            let h = o.header;
+            noted_body(
+                header::section_of(f, h),
+                super::opening::walk_in(h, o.handles, place),
+                place,
+            )
+        }
+    }
+}
+
+// Element k of the annotation body at a place.
+pub fn annotation_body_element(f: &[u8], place: usize, k: u32) -> Element
+    ensures { λ r. ⌜ element-outcome r ≡ elementOf (now (f .entry)) place k ⌝ }
+{
+    match super::opening::open_within(f, place) {
+        OpenedAnswer::Refused(r) => Element::Refused(r),
+        OpenedAnswer::Got(o) => {
+            let h = o.header;
+            value_bodies::annotation_element(
+                header::section_of(f, h),
+                super::opening::walk_in(h, o.handles, place),
+                place,
+                k,
+            )
+        }
+    }
+}

@@ -1,0 +1,43 @@
+// Annotation items by place. They hold values, so the map is read first.
+use annotations::SummaryAnswer;
+use table_readers::OpenedAnswer;
+use value_bodies::Element;
+ghost use mathlib.Core.Path.{_≡_};
+ghost use Rattle.value_bodies.specs.Answers.{element-outcome};
+ghost use Rattle.annotations.specs.Answers.{summary-outcome};
+ghost use Rattle.value_readers.specs.Items.{annotationOf, elementOf};
+
+// The annotation item at a place: its visibility, its type, and how many elements it has.
+pub fn annotation(f: &[u8], place: usize) -> SummaryAnswer
+    ensures { λ r. ⌜ summary-outcome r ≡ annotationOf (now (f .entry)) place ⌝ }
+{
+    match super::opening::open_within(f, place) {
+        OpenedAnswer::Refused(r) => SummaryAnswer::Refused(r),
+        OpenedAnswer::Got(o) => {
+            let h = o.header;
+            annotations::annotation(
+                header::section_of(f, h),
+                header::frame_of(h, o.handles),
+                place,
+            )
+        }
+    }
+}
+
+// Element k of the annotation item at a place: its name and its value.
+pub fn annotation_element(f: &[u8], place: usize, k: u32) -> Element
+    ensures { λ r. ⌜ element-outcome r ≡ elementOf (now (f .entry)) place k ⌝ }
+{
+    match super::opening::open_within(f, place) {
+        OpenedAnswer::Refused(r) => Element::Refused(r),
+        OpenedAnswer::Got(o) => {
+            let h = o.header;
+            annotations::annotation_element(
+                header::section_of(f, h),
+                header::frame_of(h, o.handles),
+                place,
+                k,
+            )
+        }
+    }
+}

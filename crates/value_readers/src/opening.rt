@@ -1,0 +1,34 @@
+// What the readers begin with: the file opened for a place, and what an item that holds values is read against.
+use encoded_value::Walk;
+use header::Header;
+use refusal::Refusal;
+use table_readers::OpenedAnswer;
+ghost use mathlib.Core.Path.{_≡_};
+ghost use Rattle.table_readers.specs.Answers.{opened-outcome};
+ghost use Rattle.value_readers.specs.Opening.{walk-in, openedWithin};
+
+// The file opened, 7 for a place outside its data section. Bodies and annotation items need no alignment.
+pub fn open_within(f: &[u8], place: usize) -> OpenedAnswer
+    ensures { λ r. ⌜ opened-outcome r ≡ openedWithin (now (f .entry)) place ⌝ }
+{
+    match table_readers::open(f) {
+        OpenedAnswer::Refused(r) => OpenedAnswer::Refused(r),
+        OpenedAnswer::Got(o) => {
+            let h = o.header;
+            if frame::is_allowed(h.start, h.end, false, place) {
+                return OpenedAnswer::Got(o);
+            }
+            OpenedAnswer::Refused(Refusal {
+                number: 7,
+                place: 0,
+            })
+        }
+    }
+}
+
+// What the item at a place is read against.
+pub fn walk_in(h: Header, handles: u32, item: usize) -> Walk
+    ensures { λ r. ⌜ r ≡ walk-in h handles item ⌝ }
+{
+    encoded_value::walk_of(header::frame_of(h, handles), item)
+}
