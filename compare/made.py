@@ -183,7 +183,7 @@ def everything(order, version=b'039', handles=((4, 0), (0, 1), (8, 3)), plain=Fa
 
 
 def sample(order):
-    """What crates/oracle_run replays."""
+    """What crates/readers_run replays of the Rust."""
     return everything(order, b'039', (), plain=True).bytes()
 
 

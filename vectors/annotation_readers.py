@@ -1,12 +1,7 @@
-#!/usr/bin/env python3
-"""Writes what crates/annotation_read_run reads (stdin) and must write (stdout): whole files of both byte orders, and what document 01 says of
-each annotation and each value in them, asked for by class and by place.
-
-    vectors/annotation_readers.py            (from the repository's root)"""
-import annotations
-from annotations import NESTED, PLAIN, kth, rule
-from dexfile import Refused, file, header, map_list, map_of, word
-from records import write
+"""Whole files of both byte orders, and what document 01 says of each annotation and each value in them, asked for by class and by place."""
+from annotations import NESTED, PLAIN, Items
+from dexfile import Refused, file, header, kth, map_list, map_of, rule, word
+from questions import File, numbers
 from tables import NONE, class_of
 
 COUNTS = {'strings': 5, 'types': 6, 'protos': 4, 'fields': 2, 'methods': 3}
@@ -15,26 +10,6 @@ CLASSES = TABLES + 48
 
 
 # ---- what document 01 says
-class File(annotations.File):
-    """The annotation rules over a file up to its data section's end; a signed value is told by its kind alone."""
-
-    def shown(self, code, raw):
-        if code in (0x03, 0x10, 0x11):
-            kind, size = {0x03: ('char', 2), 0x10: ('float', 4), 0x11: ('double', 8)}[code]
-            return f'{kind} {int.from_bytes(raw.rjust(size if code != 0x03 else 0, bytes(1)), "little")} {size}'
-        return ('false', 'true')[raw[0]] if code == 0x1f else annotations.KINDS[code]
-
-    def values(self, p):
-        """A top array: its values, and its length in bytes."""
-        end = self.array(p, p, 1)
-        count, q = self.uleb(p, p)
-        got = []
-        for _ in range(count):
-            value, q = self.value(q, p, 1)
-            got.append(value)
-        return got, end - p
-
-
 class Dex:
     def __init__(self, f):
         self.f = f
@@ -42,7 +17,7 @@ class Dex:
     def plain(self):
         """Header; what items without values are read against."""
         h = header(self.f)
-        return h, File(self.f[:h['end']], h['order'], h['start'], {name: h[name][0] for name in COUNTS})
+        return h, Items(self.f[:h['end']], h['order'], h['start'], {name: h[name][0] for name in COUNTS})
 
     def mapped(self):
         """Header and map; what items with values are read against."""
@@ -81,7 +56,7 @@ class Dex:
     def static_values(self, c):
         h, s = self.mapped()
         place = self.record(h, c)[7]
-        return s.values(place)[0] if place else []
+        return s.array(place, place, 1)[0] if place else []
 
     def at(self, place):
         h, s = self.mapped()
@@ -89,78 +64,70 @@ class Dex:
         return s
 
     def annotation(self, place):
-        visibility, kind, elements = self.at(place).item(place)
-        return (visibility, kind, len(elements)), elements
+        return self.at(place).item(place)
 
     def array(self, place):
-        values, length = self.at(place).values(place)
-        return (len(values), length), values
+        return self.at(place).array(place, place, 1)
 
     def body(self, place):
-        kind, elements, end = self.at(place).body(place, place, 1)
-        return (kind, len(elements), end - place), elements
+        return self.at(place).body(place, place, 1)
 
 
-def told(question):
-    try:
-        return question()
-    except Refused as r:
-        return f'refused {r.number} at {r.place}'
+def at_place(q, d, p):
+    """The item, the array and the body at a place, every number and one too many asked for."""
+    q.row('annotation', p, words=lambda: (lambda v, t, e: (v, t, len(e)))(*d.annotation(p)))
+    for k in numbers(lambda: len(d.annotation(p)[2])):
+        q.row('annotation_element', p, k, words=lambda: kth(d.annotation(p)[2], k))
+    q.row('array', p, words=lambda: (lambda values, end: (len(values), end - p))(*d.array(p)))
+    for k in numbers(lambda: len(d.array(p)[0])):
+        q.row('array_value', p, k, words=lambda: kth(d.array(p)[0], k))
+    q.row('annotation_body', p, words=lambda: (lambda kind, e, end: (kind, len(e), end - p))(*d.body(p)))
+    for k in numbers(lambda: len(d.body(p)[1])):
+        q.row('annotation_body_element', p, k, words=lambda: kth(d.body(p)[1], k))
 
 
-def each(question):
-    """What is said of a list and of each number in it, one too many asked for; where it is refused, number 0."""
-    try:
-        head, items = question()
-    except Refused as r:
-        return 2 * f' refused {r.number} at {r.place}'
-    return ''.join(f' {n}' for n in head) + ''.join(f' {i}' for i in items) + ' refused 7 at 0'
+def of_set(q, d, c, which, e=0, p=0):
+    of = ('field', 'method', 'parameter', 'class')[which]
+    of_what = (c, e, p)[:(2, 2, 3, 1)[which]]
+    q.row(f'{of}_annotation_count', *of_what, words=lambda: [len(d.set(c, which, e, p))])
+    for k in numbers(lambda: len(d.set(c, which, e, p))):
+        q.row(f'{of}_annotation_place', c, e, p, k, words=lambda: [kth(d.set(c, which, e, p), k)])
 
 
-def set_told(d, *which):
-    try:
-        offsets = d.set(*which)
-    except Refused as r:
-        return f' has refused {r.number} at {r.place}: refused {r.number} at {r.place}'
-    return f' has {len(offsets)}:' + ''.join(f' {n}' for n in offsets) + ' refused 7 at 0'
-
-
-def entry_told(d, c, which, e):
-    said = ('; field ', '; method ', '; parameters ')[which] + told(lambda: '{} {}'.format(*d.entry(c, which, e)[1]))
+def of_entry(q, d, c, which, e):
+    q.row(('field_entry', 'method_entry', 'parameter_entry')[which], c, e, words=lambda: d.entry(c, which, e)[1])
     if which < 2:
-        return said + set_told(d, c, which, e, 0)
+        return of_set(q, d, c, which, e)
 
     def references():
         s, (_, place) = d.entry(c, 2, e)
-        return len(s.references(place))
-    count = told(references)
-    return said + f' of {count}' + ''.join(', one' + set_told(d, c, 2, e, p) for p in range((count if isinstance(count, int) else 0) + 1))
+        return s.references(place)
+    q.row('parameter_set_count', c, e, words=lambda: [len(references())])
+    for p in numbers(lambda: len(references())):
+        of_set(q, d, c, 2, e, p)
 
 
-def class_told(d, c):
+def of_class(q, d, c):
     def head():
         found = d.directory(c)[1]
-        return 'none' if found is None else ' '.join(str(n) for n in (found[0], *map(len, found[1])))
-    said = f'  directory {told(head)}' + set_told(d, c, 3, 0, 0)
+        return found and (found[0], *map(len, found[1]))
+    q.row('directory', c, words=head)
+    of_set(q, d, c, 3)
     for which in range(3):
-        count = told(lambda: len(d.entries(c, which)[1]))
-        said += ''.join(entry_told(d, c, which, e) for e in range((count if isinstance(count, int) else 0) + 1))
-
-    def values():
-        got = d.static_values(c)
-        return [len(got)], got
-    return said + '\n  values' + each(values)
+        for e in numbers(lambda: len(d.entries(c, which)[1])):
+            of_entry(q, d, c, which, e)
+    q.row('static_value_count', c, words=lambda: [len(d.static_values(c))])
+    for k in numbers(lambda: len(d.static_values(c))):
+        q.row('static_value', c, k, words=lambda: kth(d.static_values(c), k))
 
 
-def line(name, data):
-    asked, f = data[1:1 + 4 * data[0]], data[1 + 4 * data[0]:]
-    d = Dex(f)
-    lines = [name]
-    for k in range(0, len(asked), 4):
-        p = int.from_bytes(asked[k:k + 4], 'little')
-        lines.append(f'  at {p}: annotation' + each(lambda: d.annotation(p)) + '; array' + each(lambda: d.array(p)) + '; body' + each(lambda: d.body(p)))
-    classes = told(lambda: header(f)['classes'][0])
-    return '\n'.join(lines + [class_told(d, c) for c in range((classes if isinstance(classes, int) else 0) + 1)])
+def asked(label, places, f):
+    q, d = File(label, f), Dex(f)
+    for p in places:
+        at_place(q, d, p)
+    for c in numbers(lambda: header(f)['classes'][0]):
+        of_class(q, d, c)
+    return q
 
 
 # ---- the files: tables, a method handle, then data items by name, each a list of words (numbers or names of items) or its bytes
@@ -182,7 +149,7 @@ def built(o, classes, items, ask=(), entries='handle', version=b'039', after=b''
     body = body.ljust(names['map'] - 112, b'\0') + map_list(o, entries) + after
     tables = {**{name: (count, TABLES) for name, count in COUNTS.items()}, 'classes': (len(classes), CLASSES if classes else 0)}
     f = file(o, version, body, map_at=place(head.pop('map_at', 'map')), tables=tables, data=(data, names['end'] - data), **head)
-    return bytes([len(ask)]) + b''.join(word(place(p), 'little') for p in ask) + f
+    return [place(p) for p in ask], f
 
 
 VALUES = bytes([5, 0x00, 0xff, 0x22, 0x00, 0x80, 0x23, 0x00, 0x80, 0x30, 0x80, 0x3f, 0x1c, 1, 0x3f])   # a byte, a short, a char, a float, an array of a boolean
@@ -238,5 +205,5 @@ def cases(o):
         yield name, built(o, ((0, 'values'), (0, 0)), {'values': values}, ('values', 'values + 2'), entries=[])
 
 
-if __name__ == '__main__':
-    write('annotation_read_run', [(f'{name}, {o}', data) for o in ('little', 'big') for name, data in cases(o)], line)
+def files():
+    return [asked(f'{name}, {o}', *case) for o in ('little', 'big') for name, case in cases(o)]

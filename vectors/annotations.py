@@ -1,86 +1,16 @@
-#!/usr/bin/env python3
-"""Writes what crates/annotation_run reads (stdin) and must write (stdout): document 01's rules of annotations, told once more in Python.
+"""Document 01's rules on annotation items, sets, reference lists and directories, told once more in Python; and cases of them."""
+from dexfile import kth, rule
+from questions import item
 
-    vectors/annotations.py            (from the repository's root)"""
-from dexfile import Refused
-from records import write
+from values import Section
 
 START, COUNTS = 4, {'strings': 5, 'types': 6, 'protos': 7, 'fields': 2, 'methods': 3, 'handles': 1}
 FIELDS, METHODS = COUNTS['fields'], COUNTS['methods']
-ARGUMENTS = {0x00: 1, 0x02: 2, 0x03: 2, 0x04: 4, 0x06: 8, 0x10: 4, 0x11: 8, **{c: 4 for c in range(0x15, 0x1c)}, 0x1c: 1, 0x1d: 1, 0x1e: 1, 0x1f: 2}
-INDEXED = {0x15: 'protos', 0x16: 'handles', 0x17: 'strings', 0x18: 'types', 0x19: 'fields', 0x1a: 'methods', 0x1b: 'fields'}
-KINDS = {0x00: 'byte', 0x02: 'short', 0x04: 'int', 0x06: 'long', 0x10: 'float', 0x11: 'double', 0x1e: 'null', 0x1f: 'boolean'}
 
 
-def rule(holds, number, place):
-    if not holds:
-        raise Refused(number, place)
-
-
-class File:
+class Items(Section):
     def __init__(self, data, order, start=START, counts=COUNTS):
-        self.data, self.order, self.start, self.counts = data, order, start, counts
-
-    def bytes(self, p, n, item):
-        rule(p + n <= len(self.data), 9, item)
-        return self.data[p:p + n]
-
-    def word(self, p, item):
-        return int.from_bytes(self.bytes(p, 4, item), self.order)
-
-    def uleb(self, p, item):
-        value = 0
-        for i in range(5):
-            b = self.bytes(p + i, 1, item)[0]
-            rule(i < 4 or b <= 0x0f, 10, item)
-            value |= (b & 0x7f) << 7 * i
-            if b < 0x80:
-                return value, p + i + 1
-
-    def index(self, p, limit, item):
-        value, p = self.uleb(p, item)
-        rule(value < limit, 11, item)
-        return value, p
-
-    # ---- values: what is answered, and where it ends
-    def value(self, p, item, depth):
-        head = self.bytes(p, 1, item)[0]
-        code, size = head & 31, (head >> 5) + 1
-        rule(size <= ARGUMENTS.get(code, 0), 12, item)
-        if code == 0x1c:
-            end = self.array(p + 1, item, depth + 1)
-            return f'array {p + 1} {end - p - 1}', end
-        if code == 0x1d:
-            end = self.body(p + 1, item, depth + 1)[2]
-            return f'annotation {p + 1} {end - p - 1}', end
-        if code >= 0x1e:
-            return self.shown(code, bytes([size - 1])), p + 1
-        raw = self.bytes(p + 1, size, item)
-        if code in INDEXED:
-            rule(int.from_bytes(raw, 'little') < self.counts[INDEXED[code]], 11, item)
-            return f'index {code} {int.from_bytes(raw, "little")}', p + 1 + size
-        return self.shown(code, raw), p + 1 + size
-
-    def shown(self, code, raw):
-        return f'char {int.from_bytes(raw, "little")} 2' if code == 0x03 else KINDS[code]
-
-    def array(self, p, item, depth):
-        rule(depth <= 64, 13, item)
-        count, p = self.uleb(p, item)
-        for _ in range(count):
-            p = self.value(p, item, depth)[1]
-        return p
-
-    def body(self, p, item, depth):
-        rule(depth <= 64, 13, item)
-        kind, p = self.index(p, self.counts['types'], item)
-        count, p = self.uleb(p, item)
-        elements = []
-        for _ in range(count):
-            name, p = self.index(p, self.counts['strings'], item)
-            value, p = self.value(p, item, depth)
-            elements.append(f'{name} {value}')
-        return kind, elements, p
+        super().__init__(data, order, start, counts)
 
     # ---- items by their own rules
     def item(self, item):
@@ -138,34 +68,23 @@ class File:
             self.references_below(place)
 
 
-def kth(items, k):
-    rule(k < len(items), 7, 0)
-    return items[k]
+KINDS = ('annotation_item', 'annotation', 'annotation_element', 'set_count', 'set_offset', 'reference_count', 'reference_offset', 'directory', 'directory_entry', 'check_set', 'check_references',
+         'check_directory')
 
 
 def said(file, question, item, which, k):
     if question in (0, 1, 2):
         visibility, kind, elements = file.item(item)
-        return (f'{visibility}', f'{visibility} {kind} {len(elements)}', None)[question] or kth(elements, k)
+        return ([visibility], (visibility, kind, len(elements)), None)[question] or kth(elements, k)
     if question in (3, 5):
-        return f'{len(file.set(item) if question == 3 else file.references(item))}'
+        return [len(file.set(item) if question == 3 else file.references(item))]
     if question in (4, 6):
-        return f'{kth(file.set(item) if question == 4 else file.references(item), k)}'
+        return [kth(file.set(item) if question == 4 else file.references(item), k)]
     if question in (7, 8):
         own, lists = file.directory(item)
-        if question == 7:
-            return ' '.join(str(n) for n in (own, *map(len, lists)))
-        return '{} {}'.format(*kth(lists[which] if which < 3 else [], k))
+        return (own, *map(len, lists)) if question == 7 else kth(lists[which] if which < 3 else [], k)
     (file.set_below, file.references_below, file.directory_below)[question - 9](item)
-    return 'accepted'
-
-
-def line(name, data):
-    question, order, item, which, k = data[:5]
-    try:
-        return f'{name}: ' + said(File(data[5:], ('little', 'big')[order]), question, item, which, k)
-    except Refused as r:
-        return f'{name}: refused {r.number} at {r.place}'
+    return []
 
 
 # ---- the cases: parts of a file, laid out in order from place 4 on, each at a multiple of 4 where it is a list
@@ -175,18 +94,19 @@ NESTED = bytes([2, 0, 1, 4, 0x1c, 2, 0x1d, 1, 1, 0, 0x1e, 0x17, 4])             
 CASES = []
 
 
-def case(name, order, question, data, item=4, which=0, k=0):
-    CASES.append((f'{name} {"lb"[order]}{question}.{which}.{k}', bytes([question, order, item, which, k]) + data))
-
-
-def ask(name, order, questions, data, item=4, ks=(0,), lists=(0,)):
+def ask(name, order, questions, data, at=4, ks=(0,), lists=(0,)):
+    """`lists` are asked of a directory's entries, `ks` of what is asked by number."""
+    order = ('little', 'big')[order]
+    q, file = item(f'{name}, {order}', data, order, START, **COUNTS), Items(data, order)
     for question in questions:
         for which in lists if question == 8 else (0,):
             for k in ks if question in (2, 4, 6, 8) else (0,):
-                case(name, order, question, data, item, which, k)
+                numbers = (which, k) if question == 8 else (k,)
+                q.row(KINDS[question], at, *numbers, words=lambda: said(file, question, at, which, k))
+    CASES.append(q)
 
 
-def items():
+def single():
     for name, data in (('plain', PLAIN), ('no elements', EMPTY), ('nested', NESTED), ('visibility 3', b'\3' + PLAIN[1:]), ('visibility 255', b'\xff' + PLAIN[1:]),
                        ('visibility 3 alone', b'\3'), ('no byte', b''), ('visibility alone', b'\0'), ('type 5', b'\0\5\0'), ('type 6', b'\0\6\0'), ('no size', b'\0\5'),
                        ('name 4', bytes([0, 0, 1, 4, 0x1e])), ('name 5', bytes([0, 0, 1, 5, 0x1e])), ('no name', b'\0\0\1'), ('no value', b'\0\0\1\0'),
@@ -195,8 +115,8 @@ def items():
         ask(name, 0, (0, 1, 2), bytes(4) + data, ks=(0, 1))
     for depth in (64, 65):
         ask(f'depth {depth}', 0, (0, 1, 2), bytes(4) + bytes([0, 0, 1, 0]) + bytes([0x1c, 1]) * (depth - 2) + bytes([0x1c, 0]))
-    ask('place past the end', 0, (0, 1, 2, 3, 5, 7, 9, 10, 11), bytes(8), item=200)
-    ask('no alignment', 0, (0, 1, 2), bytes(7) + PLAIN, item=7)
+    ask('place past the end', 0, (0, 1, 2, 3, 5, 7, 9, 10, 11), bytes(8), at=200)
+    ask('no alignment', 0, (0, 1, 2), bytes(7) + PLAIN, at=7)
 
 
 def lists(order):
@@ -279,9 +199,9 @@ def directories(order):
     all_of('absent sets of a parameter', file(0, 0, 0, 1, 0, 28) + word(2, 0, 0))
 
 
-if __name__ == '__main__':
-    items()
+def items():
+    single()
     for order in (0, 1):
         lists(order)
         directories(order)
-    write('annotation_run', CASES, line)
+    return CASES

@@ -1,11 +1,8 @@
-#!/usr/bin/env python3
-"""Writes what crates/class_read_run reads and must write: small files of both byte orders, each asked about with a class, a list, a member, an
-inner number and the number of a pair.
-
-    vectors/class_read.py        (from the repository's root)"""
-from dexfile import Refused, at, file, header, word
+"""Small files of both byte orders, each asked about with a class, a list, a member, an inner number and the number of a pair, and what the readers of class
+data, code and debug information answer."""
+from dexfile import Refused, at, file, header, kth, word
 from items import Judge, code, data, debug
-from records import write
+from questions import NOTHING, File
 
 NONE = 0xffffffff
 STRINGS, TYPES, FIELDS, METHODS = 3, 3, 4, 4
@@ -133,72 +130,60 @@ class Reading:
         self.place = m[2]
         return code(self.judge(m[2]), self.section(), self.h['order'])
 
+    def units(self):
+        c = self.code()
+        return None if c is None else [at(self.f, self.place + 16 + 2 * i, self.h['order'], 2) for i in range(c[0][5])]
+
     def debug(self):
         c = self.code()
-        if c is None or c[0][2] == 0:
+        if c is None or c[0][4] == 0:
             return None
-        return debug(self.judge(c[0][2]), self.section())
+        return debug(self.judge(c[0][4]), self.section())
+
+    def program(self):
+        d = self.debug()
+        return d and self.f[d[2]:d[2] + d[3]]
 
 
-def pick(items, n):
-    if n >= len(items):
-        raise Refused(7)
-    return items[n]
+def number(v):
+    return NOTHING if v is None else v
 
 
-def asked(read, show):
-    """What is shown of an item, none where it is absent, or the refusal."""
-    try:
-        got = read()
-        return ' none' if got is None else ''.join(f' {v}' for v in show(got))
-    except Refused as r:
-        return f' refused {r.number} at {r.place}'
+def covering(tries, address):
+    """The number of the try, or none."""
+    return next(([i] for i, t in enumerate(tries) if t[0] <= address < t[0] + t[1]), None)
 
 
-def written(read, values):
-    """How many values were written into three places that hold 77, and what they hold."""
-    out = [77, 77, 77]
+def asked(label, numbers, f):
+    q = File(label, f)
+    m, n, p = numbers[:3], numbers[3], numbers[4]
+    r = Reading(f, *m)
 
-    def show(got):
-        v = values(got)
-        if len(v) > 3:
-            raise Refused(19)
-        out[:len(v)] = v
-        return [len(v)]
-    said = asked(read, show)
-    return said + ' left' + ''.join(f' {v}' for v in out)
+    def row(reader, *inner, of, show):
+        """`show` says the words of an item that is there."""
+        def words():
+            got = of()
+            return None if got is None else show(got)
+        q.row(reader, *m, *inner, words=words)
 
-
-def line(name, s):
-    c, l, k, n, p = s[:5]
-    f = s[5:]
-    r = Reading(f, c, l, k)
-    units = lambda got: [at(f, r.place + 16 + 2 * i, r.h['order'], 2) for i in range(got[0][3])]
-    shown = [
-        'data' + asked(r.lists, lambda got: map(len, got)),
-        'member' + asked(r.member, lambda m: m),
-        'flags' + written(r.member, lambda m: [i for i in range(18) if m[1] >> i & 1]),
-        'code' + asked(r.code, lambda got: (*(at(f, r.place + 2 * i, r.h['order'], 2) for i in range(4)), got[0][2], got[0][3], len(got[3]))),
-        'units' + written(r.code, units),
-        'debug' + asked(r.debug, lambda d: (d[0], len(d[1]), d[2], d[3])),
-    ]
-
-    def program():
-        try:
-            d = r.debug()
-        except Refused:
-            return ''
-        return '' if d is None else ''.join(f' {b}' for b in f[d[2]:d[2] + d[3]])
-    shown += [
-        'program' + program(),
-        'try' + asked(r.code, lambda got: (*pick(got[1], n), got[2][n])),
-        'covering' + asked(r.code, lambda got: [next((i for i, t in enumerate(got[1]) if t[0] <= n < t[0] + t[1]), 'none')]),
-        'handlers' + asked(r.code, lambda got: [len(got[3])]),
-        'handler' + asked(r.code, lambda got: [(a, len(b), 'uncaught' if z == 'none' else z) for a, b, z in [pick(got[3], n)]][0]),
-        'pair' + asked(r.code, lambda got: pick(pick(got[3], n)[1], p)),
-        'name' + asked(r.debug, lambda d: ['unnamed' if pick(d[1], n) == 'none' else pick(d[1], n)]),
-    ]
-    return f'{name}: ' + ', '.join(shown)
+    def handler(c):
+        place, pairs, caught = kth(c[3], n)
+        return place, len(pairs), number(caught)
+    q.row('class_data', m[0], words=lambda: (lambda got: got and list(map(len, got)))(r.lists()))
+    row('member', of=r.member, show=lambda got: got)
+    q.output('member_flags', *m, room=3, values=lambda: (lambda got: got and [i for i in range(18) if got[1] >> i & 1])(r.member()))
+    row('code', of=r.code, show=lambda c: c[0])
+    q.output('units', *m, room=3, values=r.units)
+    row('debug', of=r.debug, show=lambda d: (d[0], len(d[1]), d[2], d[3]))
+    q.part('line_program', *m, data=r.program)
+    row('try_item', n, of=r.code, show=lambda c: (*kth(c[1], n), c[2][n]))
+    row('covering_try', n, of=r.code, show=lambda c: covering(c[1], n))
+    row('handler_count', of=r.code, show=lambda c: [len(c[3])])
+    row('handler', n, of=r.code, show=handler)
+    row('handler_pair', n, p, of=r.code, show=lambda c: kth(kth(c[3], n)[1], p))
+    row('debug_parameter', n, of=r.debug, show=lambda d: [number(kth(d[1], n))])
+    return q
 
 
-write('class_read_run', [(f'{name}, {o}', bytes(q) + f) for o in ('little', 'big') for name, q, f in cases(o)], line)
+def files():
+    return [asked(f'{name}, {o}', numbers, f) for o in ('little', 'big') for name, numbers, f in cases(o)]

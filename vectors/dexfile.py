@@ -11,6 +11,17 @@ class Refused(Exception):
         self.number, self.place = number, place
 
 
+def rule(holds, number, place):
+    if not holds:
+        raise Refused(number, place)
+
+
+def kth(items, k):
+    """Number k of a list, or 7."""
+    rule(k < len(items), 7, 0)
+    return items[k]
+
+
 def word(value, order, size=4):
     return (value % 256 ** size).to_bytes(size, order)
 

@@ -1,9 +1,6 @@
-#!/usr/bin/env python3
-"""Writes what crates/head_run reads and must write: files that break each rule on header and map alone, in both byte orders.
-
-    vectors/head.py            (from the repository's root)"""
-from dexfile import CODES, Refused, file, header, map_list, map_of, word
-from records import write
+"""Files that break each rule on header and map alone, in both byte orders, and what the readers of header and map answer."""
+from dexfile import CODES, TABLES, file, header, kth, map_list, map_of
+from questions import File, numbers
 
 
 def cases(o):
@@ -60,25 +57,23 @@ def cases(o):
         yield f'{count} handles at {place}', file(o, b'039', map_list(o, [(8, count, place)]))
 
 
-def said(question):
-    try:
-        return question()
-    except Refused as r:
-        return f'refused {r.number} at {r.place}'
+def asked(label, f):
+    q = File(label, f)
 
-
-def line(name, f):
     def head():
         h = header(f)
-        tables = ' '.join(f'{h[t][0]} at {h[t][1]}' for t in ('strings', 'types', 'protos', 'fields', 'methods', 'classes'))
-        return f"version {h['version']} {h['order']} {h['checksum']} map {h['map']} tables {tables} data {h['start']} to {h['end']}"
+        return h['version'], ('little', 'big').index(h['order']), h['checksum'], h['map'], *(n for table in TABLES for n in h[table]), h['start'], h['end']
 
     def entries():
-        got, handles = map_of(f, header(f))
-        return f'{len(got)} entries, {handles[0]} handles' + ''.join(f', {k} {n} {p}' for k, n, p in got) + ', refused 7 at 0'
+        return map_of(f, header(f))[0]
+    q.row('header', words=head)
+    q.part('signature', data=lambda: header(f) and f[12:32])
+    q.row('map_count', words=lambda: [len(entries())])
+    for k in numbers(lambda: len(entries())):
+        q.row('map_entry', k, words=lambda: kth(entries(), k))
+    q.row('handle_count', words=lambda: [map_of(f, header(f))[1][0]])
+    return q
 
-    signed = 0 if said(head).startswith('refused') else 20
-    return f'{name}: {said(head)} signed by {signed}; {said(entries)}'
 
-
-write('head_run', [(f'{name}, {o}', f) for o in ('little', 'big') for name, f in cases(o)], line)
+def files():
+    return [asked(f'{name}, {o}', f) for o in ('little', 'big') for name, f in cases(o)]

@@ -1,5 +1,5 @@
 """Document 01's rules on debug information, class data and code items, told once more in Python. `w` is what an item is judged by: its
-place, where the data section starts, and the counts. `s` ends where the data section ends."""
+place, where the data section starts, and the counts. `s` ends where the data section ends. None stands for a name or an address that is not there."""
 from collections import namedtuple
 
 from dexfile import Refused
@@ -36,7 +36,7 @@ def debug(w, s):
         v, p = uleb(w, s, p)
         if v > w.strings:
             raise Refused(11, w.item)
-        names.append('none' if v == 0 else v - 1)
+        names.append(None if v == 0 else v - 1)
     zero = p
     while True:
         if len(s) <= zero:
@@ -119,7 +119,7 @@ def code(w, s, order):
                     raise Refused(11, w.item)
                 a, p = address(p)
                 pairs.append((kind, a))
-            caught = 'none'
+            caught = None
             if size <= 0:
                 caught, p = address(p)
             handlers.append((place, pairs, caught))
@@ -130,4 +130,4 @@ def code(w, s, order):
         if a[2] not in places:
             raise Refused(17, w.item)
         links.append(places.index(a[2]))
-    return (registers, tries, offset, units, len(handlers), start, base, end), attempts, links, handlers
+    return (registers, ins, outs, tries, offset, units, len(handlers), start, base, end), attempts, links, handlers

@@ -1,9 +1,6 @@
-#!/usr/bin/env python3
-"""Writes what crates/string_run reads and must write: string tables in both byte orders, and a text that is looked up in each.
-
-    vectors/strings.py            (from the repository's root)"""
-from dexfile import Refused, at, file, header, map_list, word
-from records import write
+"""String tables in both byte orders, a text that is looked up in each, and what the readers of strings answer."""
+from dexfile import Refused, at, file, header, map_list, rule, word
+from questions import File, numbers
 
 
 def uleb(n):
@@ -112,38 +109,35 @@ def string(f, h, n):
     return start, f[start:p], got
 
 
-def asked(f, n):
-    try:
-        h = header(f)
-        if n >= h['strings'][0]:
-            raise Refused(7)
-        start, data, got = string(f, h, n)
-        return f', {start} {len(got)} {data.hex()}'
-    except Refused as r:
-        return f', refused {r.number} at {r.place} '
-
-
 def looked_up(f, text):
-    try:
-        h = header(f)
-        last, found = None, 'none'
-        for n in range(h['strings'][0]):
-            start, data, got = string(f, h, n)
-            if last is not None and not last < got:
-                raise Refused(15, h['strings'][1] + 4 * n)
-            last = got
-            if data == text:
-                found = str(n)
-        return found
-    except Refused as r:
-        return f'refused {r.number} at {r.place}'
+    h = header(f)
+    last, found = None, None
+    for n in range(h['strings'][0]):
+        data, got = string(f, h, n)[1:]
+        rule(last is None or last < got, 15, h['strings'][1] + 4 * n)
+        last = got
+        if data == text:
+            found = [n]
+    return found
 
 
-def line(name, data):
-    text, f = data[1:1 + data[0]], data[1 + data[0]:]
-    count = header(f)['strings'][0]
-    return f'{name}: {looked_up(f, text)}' + ''.join(asked(f, n) for n in range(count + 1))
+def asked(label, text, f):
+    q = File(label, f)
+    h = header(f)
+
+    def at_number(n):
+        rule(n < h['strings'][0], 7, 0)
+        return string(f, h, n)
+
+    def extent(n):
+        start, data, got = at_number(n)
+        return start, len(data), len(got)
+    q.row('find_string', words=lambda: looked_up(f, text), text=text)
+    for n in numbers(lambda: h['strings'][0]):
+        q.row('string', n, words=lambda: extent(n))
+        q.part('string_bytes', n, data=lambda: at_number(n)[1])
+    return q
 
 
-if __name__ == '__main__':
-    write('string_run', [(f'{name}, {o}', bytes([len(text)]) + text + f) for o in ('little', 'big') for name, text, f in cases(o)], line)
+def files():
+    return [asked(f'{name}, {o}', text, f) for o in ('little', 'big') for name, text, f in cases(o)]

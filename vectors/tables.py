@@ -1,9 +1,6 @@
-#!/usr/bin/env python3
-"""Writes what crates/table_run reads and must write: small files of both byte orders in which each rule of each record is broken alone, or two at once.
-
-    vectors/tables.py            (from the repository's root)"""
-from dexfile import Refused, at, file, header, map_list, map_of, word
-from records import write
+"""Small files of both byte orders in which each rule of each record is broken alone, or two at once, and what the readers of records answer."""
+from dexfile import at, file, header, kth, map_list, map_of, rule, word
+from questions import NOTHING, File, item, numbers
 
 NONE = 0xffffffff
 
@@ -84,23 +81,18 @@ def absent_or(h, offset, four):
     return offset == 0 or h['start'] <= offset < h['end'] and not (four and offset % 4)
 
 
-def need(test, number, place):
-    if not test:
-        raise Refused(number, place)
-
-
 def type_name(f, h, n):
     place = h['types'][1] + 4 * n
-    need(at(f, place, h['order']) < h['strings'][0], 11, place)
-    return str(at(f, place, h['order']))
+    rule(at(f, place, h['order']) < h['strings'][0], 11, place)
+    return [at(f, place, h['order'])]
 
 
 def proto(f, h, n):
     place = h['protos'][1] + 12 * n
     shorty, returns, parameters = (at(f, place + i, h['order']) for i in (0, 4, 8))
-    need(shorty < h['strings'][0], 11, place)
-    need(returns < h['types'][0], 11, place)
-    need(absent_or(h, parameters, True), 8, place)
+    rule(shorty < h['strings'][0], 11, place)
+    rule(returns < h['types'][0], 11, place)
+    rule(absent_or(h, parameters, True), 8, place)
     return shorty, returns, parameters
 
 
@@ -108,100 +100,99 @@ def member(f, h, table, kinds, n):
     place = h[table][1] + 8 * n
     got = at(f, place, h['order'], 2), at(f, place + 2, h['order'], 2), at(f, place + 4, h['order'])
     for value, limit in zip(got, ('types', kinds, 'strings')):
-        need(value < h[limit][0], 11, place)
-    return ' '.join(map(str, got))
+        rule(value < h[limit][0], 11, place)
+    return got
+
+
+def handle(f, h, n):
+    count, place = map_of(f, h)[1]
+    rule(n < count, 7, 0)
+    place += 8 * n
+    kind, number = at(f, place, h['order'], 2), at(f, place + 4, h['order'], 2)
+    rule(kind <= 8, 18, place)
+    rule(number < h['fields' if kind <= 3 else 'methods'][0], 11, place)
+    return kind, number
 
 
 def class_of(f, h, n):
     place = h['classes'][1] + 32 * n
     w = [at(f, place + 4 * i, h['order']) for i in range(8)]
-    need(w[0] < h['types'][0], 11, place)
-    need(w[2] == NONE or w[2] < h['types'][0], 11, place)
-    need(absent_or(h, w[3], True), 8, place)
-    need(w[4] == NONE or w[4] < h['strings'][0], 11, place)
-    need(absent_or(h, w[5], True) and absent_or(h, w[6], False) and absent_or(h, w[7], False), 8, place)
+    rule(w[0] < h['types'][0], 11, place)
+    rule(w[2] == NONE or w[2] < h['types'][0], 11, place)
+    rule(absent_or(h, w[3], True), 8, place)
+    rule(w[4] == NONE or w[4] < h['strings'][0], 11, place)
+    rule(absent_or(h, w[5], True) and absent_or(h, w[6], False) and absent_or(h, w[7], False), 8, place)
     return w
 
 
 def type_list(f, h, place):
     if place == 0:
         return []
-    need(place + 4 <= h['end'] and place + 4 + 2 * at(f, place, h['order']) <= h['end'], 9, place)
+    rule(place + 4 <= h['end'] and place + 4 + 2 * at(f, place, h['order']) <= h['end'], 9, place)
     got = [at(f, place + 4 + 2 * i, h['order'], 2) for i in range(at(f, place, h['order']))]
-    need(all(t < h['types'][0] for t in got), 11, place)
+    rule(all(t < h['types'][0] for t in got), 11, place)
     return got
 
 
-def asked(question):
-    try:
-        return question()
-    except Refused as r:
-        return f'refused {r.number} at {r.place}'
+def bits(value, of_class=True):
+    """Flags as bit numbers."""
+    return [i for i in range(18) if value >> i & 1 and not (of_class and i in (6, 7))]
 
 
-def numbered(count, n, question):
-    def ask():
-        need(n < count, 7, 0)
-        return question()
-    return asked(ask)
-
-
-def entries(got):
-    """How many, each, and one too many."""
-    return f'{len(got)}' + ''.join(f' {t}' for t in got) + ' refused 7 at 0'
-
-
-def listed(count, n, place):
-    """A list by its count and its entries: where the count is refused, entry 0 is asked for too."""
-    said = numbered(count, n, lambda: entries(place()))
-    return said if not said.startswith('refused') else said + ' ' + said
-
-
-def flags(value):
-    every = [i for i in range(18) if value >> i & 1]
-    got = [i for i in every if i not in (6, 7)]
-    room = lambda n: 'refused 19 at 0' if len(got) > n else str(len(got))
-    return f'{len(got)}' + ''.join(f' {i}' for i in got) + f', of a member {len(every)}' + ''.join(f' {i}' for i in every) + f' into 15: {room(15)} into 0: {room(0)}'
-
-
-def flagged(count, n, question):
-    said = numbered(count, n, question)
-    return said if not said.startswith('refused') else f'{said} into 15: {said} into 0: {said}'
-
-
-def line(name, f):
+def asked(label, f, more=()):
+    """Each record of each table, one too many asked for, and the numbers in `more`."""
+    q = File(label, f)
     h = header(f)
-    out = []
-    for n in range(h['types'][0] + 1):
-        out.append('type ' + numbered(h['types'][0], n, lambda: type_name(f, h, n)))
-    for n in range(h['protos'][0] + 1):
-        out.append('proto ' + numbered(h['protos'][0], n, lambda: ' '.join(map(str, proto(f, h, n)))) + ' of ' + listed(h['protos'][0], n, lambda: type_list(f, h, proto(f, h, n)[2])))
-    for n in range(h['fields'][0] + 1):
-        out.append('field ' + numbered(h['fields'][0], n, lambda: member(f, h, 'fields', 'types', n)))
-    for n in range(h['methods'][0] + 1):
-        out.append('method ' + numbered(h['methods'][0], n, lambda: member(f, h, 'methods', 'protos', n)))
 
-    def handle(n):
-        count, place = map_of(f, h)[1]
-        need(n < count, 7, 0)
-        place += 8 * n
-        kind, number = at(f, place, h['order'], 2), at(f, place + 4, h['order'], 2)
-        need(kind <= 8, 18, place)
-        need(number < h['fields' if kind <= 3 else 'methods'][0], 11, place)
-        return f'{kind} {number}'
+    def numbered(table, read):
+        def at_number(n):
+            rule(n < h[table][0], 7, 0)
+            return read(n)
+        return at_number
 
-    for n in range(10):
-        out.append('handle ' + asked(lambda: handle(n)))
+    def each(table):
+        return (*numbers(lambda: h[table][0]), *more)
 
-    def said(w):
-        none = lambda v: 'none' if v == NONE else str(v)
-        return f'{w[0]} {w[1]} {none(w[2])} {w[3]} {none(w[4])} {w[5]} {w[6]} {w[7]}'
+    def listed(count, item, n, read):
+        q.row(count, n, words=lambda: [len(read())])
+        for k in (*numbers(lambda: len(read())), *more):
+            q.row(item, n, k, words=lambda: [kth(read(), k)])
 
-    for n in range(h['classes'][0] + 1):
-        count = h['classes'][0]
-        out.append('class ' + numbered(count, n, lambda: said(class_of(f, h, n))) + ' of ' + listed(count, n, lambda: type_list(f, h, class_of(f, h, n)[3])) + ' flags ' + flagged(count, n, lambda: flags(class_of(f, h, n)[1])))
-    return f'{name}: ' + ', '.join(out)
+    def class_words(n):
+        w = a_class(n)
+        return *w[:2], NOTHING if w[2] == NONE else w[2], w[3], NOTHING if w[4] == NONE else w[4], *w[5:]
+    a_type = numbered('types', lambda n: type_name(f, h, n))
+    a_proto = numbered('protos', lambda n: proto(f, h, n))
+    a_field = numbered('fields', lambda n: member(f, h, 'fields', 'types', n))
+    a_method = numbered('methods', lambda n: member(f, h, 'methods', 'protos', n))
+    a_class = numbered('classes', lambda n: class_of(f, h, n))
+    for n in each('types'):
+        q.row('type_name', n, words=lambda: a_type(n))
+    for n in each('protos'):
+        q.row('proto', n, words=lambda: a_proto(n))
+        listed('parameter_count', 'parameter', n, lambda: type_list(f, h, a_proto(n)[2]))
+    for n in each('fields'):
+        q.row('field', n, words=lambda: a_field(n))
+    for n in each('methods'):
+        q.row('method', n, words=lambda: a_method(n))
+    for n in (*range(10), *more):
+        q.row('handle', n, words=lambda: handle(f, h, n))
+    for n in each('classes'):
+        q.row('class', n, words=lambda: class_words(n))
+        listed('interface_count', 'interface', n, lambda: type_list(f, h, a_class(n)[3]))
+        for room in (18, 15, 0):
+            q.output('class_flags', n, room=room, values=lambda: bits(a_class(n)[1]))
+    return q
 
 
-if __name__ == '__main__':
-    write('table_run', [(f'{name}, {o}', f) for o in ('little', 'big') for name, f in cases(o)], line)
+def files():
+    return [asked(f'{name}, {o}', f, (255, 256, 65535, 65536, NONE) if name == 'good' else ()) for o in ('little', 'big') for name, f in cases(o)]
+
+
+def items():
+    for value in (0, 1, 0x10, 0xc0, 0x20c1, 0x3ffff, 0x8000, 0x40000, NONE):
+        q = item(f'flags {value:x}', b'')
+        for of_class in (0, 1):
+            for room in (18, 15, 0):
+                q.output('flags', value, of_class, room=room, values=lambda: bits(value, of_class))
+        yield q

@@ -3,18 +3,13 @@
 
     vectors/whole.py FILE..            a line for each file: accepted, or the refusal's number and place"""
 import sys
-from dexfile import Refused, at, header, map_of
+from dexfile import Refused, at, header, map_of, rule
 
 NONE = 0xffffffff
 TABLES = ('strings', 'types', 'protos', 'fields', 'methods', 'classes')
 MOST_INPUT = 65536
 ARGUMENTS = {0x00: 1, 0x02: 2, 0x03: 2, 0x04: 4, 0x06: 8, 0x10: 4, 0x11: 8, **{c: 4 for c in range(0x15, 0x1c)}, 0x1c: 1, 0x1d: 1, 0x1e: 1, 0x1f: 2}
 INDEX = {0x15: 'protos', 0x16: 'handles', 0x17: 'strings', 0x18: 'types', 0x19: 'fields', 0x1a: 'methods', 0x1b: 'fields'}
-
-
-def rule(holds, number, place):
-    if not holds:
-        raise Refused(number, place)
 
 
 class Item:

@@ -1,0 +1,45 @@
+// Asks the readers questions about files, and writes a line for each answer: vectors/questions.py says how a file and its questions are read from
+// standard input, and the scripts beside it what must be written.
+mod classes;
+mod code;
+mod heads;
+mod items;
+mod notes;
+mod outputs;
+mod printing;
+mod questions;
+mod tables;
+mod values;
+
+use word::Endian;
+
+// What follows a file's head, into a room that has place for it.
+fn rest_of(room: &mut [u8], size: usize, label: u16, length: u16) {
+    if room.len() < size {
+        return;
+    }
+    io::read_full(0, &mut room[..size]);
+    questions::about(room, size, label, length);
+}
+
+// The length of what follows, of a label and of a file.
+fn one_file() {
+    let mut head = [0u8; 8];
+    io::read_full(0, &mut head);
+    let size = word::u32_at(&head, 0, Endian::Little) as usize;
+    let label = word::u16_at(&head, 4, Endian::Little);
+    let length = word::u16_at(&head, 6, Endian::Little);
+    let mut room = io::large_buffer();
+    rest_of(&mut room, size, label, length);
+}
+
+// How many files there are, then each.
+fn main() {
+    let mut count = [0u8; 4];
+    io::read_full(0, &mut count);
+    let mut left = word::u32_at(&count, 0, Endian::Little);
+    while 0 < left {
+        one_file();
+        left -= 1;
+    }
+}
