@@ -1,6 +1,6 @@
 """Whole files of both byte orders, and what document 01 says of each annotation and each value in them, asked for by class and by place."""
 from annotations import NESTED, PLAIN, Items
-from dexfile import Refused, file, header, kth, map_list, map_of, rule, word
+from dexfile import file, header, kth, map_list, map_of, rule, word
 from questions import File, numbers
 from tables import NONE, class_of
 

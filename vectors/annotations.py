@@ -1,7 +1,6 @@
 """Document 01's rules on annotation items, sets, reference lists and directories, told once more in Python; and cases of them."""
 from dexfile import kth, rule
 from questions import item
-
 from values import Section
 
 START, COUNTS = 4, {'strings': 5, 'types': 6, 'protos': 7, 'fields': 2, 'methods': 3, 'handles': 1}

@@ -42,6 +42,32 @@ fn numbers_of(q: &[u8]) -> Numbers {
     }
 }
 
+fn head_row(f: &[u8], reader: u8, n: Numbers) -> [u64; 20] {
+    if reader < 2 {
+        return heads::row(f, reader);
+    }
+    if reader < 8 {
+        return heads::map_row(f, reader, n.a);
+    }
+    if reader < 12 {
+        return tables::row(f, reader, n.a);
+    }
+    tables::member_row(f, reader, n.a, n.b)
+}
+
+fn class_row(f: &[u8], reader: u8, n: Numbers) -> [u64; 20] {
+    if reader < 19 {
+        return classes::row(f, reader, n.a, n.b);
+    }
+    if reader < 24 {
+        return classes::data_row(f, reader, n.a, n.b, n.c);
+    }
+    if reader < 28 {
+        return code::row(f, reader, n.a, n.b, n.c, n.d);
+    }
+    code::handler_row(f, reader, n.a, n.b, n.c, n.d, n.e)
+}
+
 fn note_row(f: &[u8], reader: u8, n: Numbers) -> [u64; 20] {
     if reader < 40 {
         return notes::row(f, reader, n.a, n.b);
@@ -59,17 +85,11 @@ fn note_row(f: &[u8], reader: u8, n: Numbers) -> [u64; 20] {
 }
 
 fn row_of(f: &[u8], reader: u8, n: Numbers) -> [u64; 20] {
-    if reader < 8 {
-        return heads::row(f, reader, n.a);
-    }
     if reader < 16 {
-        return tables::row(f, reader, n.a, n.b);
-    }
-    if reader < 24 {
-        return classes::row(f, reader, n.a, n.b, n.c);
+        return head_row(f, reader, n);
     }
     if reader < 32 {
-        return code::row(f, reader, n.a, n.b, n.c, n.d, n.e);
+        return class_row(f, reader, n);
     }
     note_row(f, reader, n)
 }

@@ -1,0 +1,61 @@
+use borrow.Author.Needs.{needs}
+use Rattle.items_run.proofs.main.Statement.{statement}
+use Rattle.items_run.proofs.main.Tie as tie
+use Rattle.items_run.proofs.main.Reads as reads
+use Rattle.items_run.proofs.main.Lts as lts
+use Rattle.io.proofs.read_full.Reads as read-full-reads
+use Rattle.items_run.proofs.one_item.Reads as one-item-reads
+use Rattle.word.proofs.u32_at.Reads as u32-at-reads
+
+abbrev Inv-loop : tie.InvT-loop
+Inv-loop left₀ left = Unit
+
+abbrev μ-loop : tie.MeasureT-loop
+μ-loop left₀ left = left
+
+slice-aggregate-read-full : tie.Need-slice-aggregate-read-full Inv-loop μ-loop
+slice-aggregate-read-full c = search needs
+
+read-full-requires : tie.Need-read-full-requires Inv-loop μ-loop
+read-full-requires c κs = search needs
+
+slice-aggregate-u32-at : tie.Need-slice-aggregate-u32-at Inv-loop μ-loop
+slice-aggregate-u32-at c = search needs
+
+u32-at-requires : tie.Need-u32-at-requires Inv-loop μ-loop
+u32-at-requires c κs = search needs
+
+loop-holds : tie.Need-loop-holds Inv-loop μ-loop
+loop-holds c = search needs
+
+one-item-requires : tie.Need-one-item-requires Inv-loop μ-loop
+one-item-requires c κs = search needs
+
+sub-left : tie.Need-sub-left Inv-loop μ-loop
+sub-left c = search needs
+
+loop-less : tie.Need-loop-less Inv-loop μ-loop
+loop-less c = search needs
+
+loop-again : tie.Need-loop-again Inv-loop μ-loop
+loop-again c = search needs
+
+returns : tie.Need-returns Inv-loop μ-loop
+returns c = search needs
+
+pub main-spec : {M : Type 1} → statement M
+main-spec =
+    tie.close
+    (tie.spec
+    Inv-loop
+    μ-loop
+    slice-aggregate-read-full
+    read-full-requires
+    slice-aggregate-u32-at
+    u32-at-requires
+    loop-holds
+    one-item-requires
+    sub-left
+    loop-less
+    loop-again
+    returns)
