@@ -1,20 +1,20 @@
 // Kinds 16 to 24: debug information, class data and code items. Their answers have the words of the readers' answers.
 use class_data::DataAnswer;
 use class_data::MemberAnswer;
-use code_readers::MaybeCode;
 use class_readers::MaybeData;
-use debug_readers::MaybeDebug;
-use code_readers::MaybeHandler;
 use class_readers::MaybeMember;
-use debug_readers::MaybeName;
-use code_readers::MaybePair;
-use code_readers::MaybeTry;
 use code_item::CodeAnswer;
 use code_item::HandlerAnswer;
 use code_item::PairAnswer;
 use code_item::TryAnswer;
+use code_readers::MaybeCode;
+use code_readers::MaybeHandler;
+use code_readers::MaybePair;
+use code_readers::MaybeTry;
 use debug_info::DebugAnswer;
 use debug_info::NameAnswer;
+use debug_readers::MaybeDebug;
+use debug_readers::MaybeName;
 use frame::Frame;
 
 fn debug(a: DebugAnswer) -> MaybeDebug {

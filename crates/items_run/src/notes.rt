@@ -1,8 +1,8 @@
 // Kinds 32 to 43: annotation items, sets, reference lists, directories, and all that lies below them.
-use directory_readers::DirectoryAnswer;
 use annotations::HeadAnswer;
 use annotations::Visibility;
 use annotations::Word;
+use directory_readers::DirectoryAnswer;
 use frame::Frame;
 
 fn visibility(v: Visibility) -> Word {
