@@ -1,9 +1,9 @@
 // Runs small files against the readers of annotations and values. A case is a number of places (1 byte), the places (4 bytes each, low
 // first), and a file. Every number is asked for, and one too many; where a count is refused, number 0.
-use annotations::EntryAnswer;
-use annotations::Head;
-use annotations::SummaryAnswer;
-use annotations::Word;
+use annotation_directories::EntryAnswer;
+use annotation_directories::Head;
+use annotation_items::SummaryAnswer;
+use annotation_lists::Word;
 use decoded_value::Value;
 use dex::ArrayAnswer;
 use dex::BodyAnswer;

@@ -1,10 +1,10 @@
 // Runs cases of annotations. A case is five bytes, which say what is asked (the question, the byte order, the item's place, a list and a
 // number), and then a file up to its data section's end, whose data section starts at 4.
-use annotations::EntryAnswer;
-use annotations::HeadAnswer;
-use annotations::SummaryAnswer;
-use annotations::Visibility;
-use annotations::Word;
+use annotation_directories::EntryAnswer;
+use annotation_directories::HeadAnswer;
+use annotation_items::SummaryAnswer;
+use annotation_items::Visibility;
+use annotation_lists::Word;
 use decoded_value::Value;
 use frame::Frame;
 use refusal::Checked;
@@ -143,37 +143,37 @@ fn frame_of(b: u8) -> Frame {
 
 fn of_items(question: u8, s: &[u8], f: Frame, item: usize, k: u32) {
     if question == 0 {
-        visibility(annotations::annotation_item(s, f, item));
+        visibility(annotation_items::annotation_item(s, f, item));
     }
     if question == 1 {
-        summary(annotations::annotation(s, f, item));
+        summary(annotation_items::annotation(s, f, item));
     }
     if question == 2 {
-        element(annotations::annotation_element(s, f, item, k));
+        element(annotation_items::annotation_element(s, f, item, k));
     }
 }
 
 fn of_lists(question: u8, s: &[u8], f: Frame, item: usize, k: u32) {
     if question == 3 {
-        word(annotations::set_count(s, f, item));
+        word(annotation_lists::set_count(s, f, item));
     }
     if question == 4 {
-        word(annotations::set_offset(s, f, item, k));
+        word(annotation_lists::set_offset(s, f, item, k));
     }
     if question == 5 {
-        word(annotations::reference_count(s, f, item));
+        word(annotation_lists::reference_count(s, f, item));
     }
     if question == 6 {
-        word(annotations::reference_offset(s, f, item, k));
+        word(annotation_lists::reference_offset(s, f, item, k));
     }
 }
 
 fn of_directories(question: u8, s: &[u8], f: Frame, item: usize, list: u32, k: u32) {
     if question == 7 {
-        head(annotations::directory(s, f, item));
+        head(annotation_directories::directory(s, f, item));
     }
     if question == 8 {
-        entry(annotations::directory_entry(s, f, item, list, k));
+        entry(annotation_directories::directory_entry(s, f, item, list, k));
     }
 }
 
