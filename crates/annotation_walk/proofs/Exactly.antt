@@ -11,11 +11,14 @@ use Rattle.refusal.specs.Exact.{Exact, Present, Each}
 use Rattle.refusal.proofs.Exact.{same, answer-exact, bind-exact, exact-iff, present-exact, accepted-iff}
 use Rattle.word.specs.Words.{u32At}
 use Rattle.frame.specs.declared.Frame.{Frame}
-use Rattle.annotations.specs.Items.{Item}
-use Rattle.annotations.specs.Rules.{SetRule, ReferencesRule, ItemRule}
-use Rattle.annotations.specs.Fixed.{entriesFrom}
-use Rattle.annotations.proofs.Fixed.{entries-exact}
-use Rattle.annotations.proofs.Exactly.{item-exact, set-exact, references-exact, directory-exact}
+use Rattle.annotation_items.specs.Items.{Item}
+use Rattle.annotation_lists.specs.Rules.{SetRule, ReferencesRule}
+use Rattle.annotation_items.specs.Rules.{ItemRule}
+use Rattle.annotation_lists.specs.Fixed.{entriesFrom}
+use Rattle.annotation_lists.proofs.Fixed.{entries-exact}
+use Rattle.annotation_lists.proofs.Exactly.{set-exact, references-exact}
+use Rattle.annotation_directories.proofs.Exactly.{directory-exact}
+use Rattle.annotation_items.proofs.Exactly.{item-exact}
 use Rattle.annotation_walk.specs.Below.{Under, Annotated, itemFrom, setBelow, setFrom, referencesBelow, entryFrom, headBelow, directoryBelow}
 use Rattle.annotation_walk.specs.Rules.{SetBelow, ReferencesBelow, EntryBelow, DirectoryBelow}
 

@@ -19,22 +19,23 @@ use Rattle.refusal.proofs.Exact.{never}
 use Rattle.refusal.proofs.Kept.{on-checked, accepted-answer, accepted-refused, part-answer, part-refused, kept-part, kept-on, made-kept, unit-kept, absent-kept, present-kept}
 use Rattle.word.specs.Words.{u32At}
 use Rattle.frame.specs.declared.Frame.{Frame}
-use Rattle.annotations.specs.declared.Head.{Head}
+use Rattle.annotation_directories.specs.declared.Head.{Head}
 use Rattle.refusal.specs.declared.Checked.{Checked}
 use Rattle.refusal.specs.declared.Checked.the-variants as C
-use Rattle.annotations.specs.declared.Visibility.{Visibility}
-use Rattle.annotations.specs.declared.Visibility.the-variants as N
-use Rattle.annotations.specs.declared.HeadAnswer.the-variants as H
-use Rattle.annotations.specs.declared.Word.{Word}
-use Rattle.annotations.specs.declared.Word.the-variants as W
-use Rattle.annotations.specs.Answers.{visibility-outcome, word-outcome}
-use Rattle.annotations.specs.Fixed.{entriesFrom}
-use Rattle.annotations.specs.Offsets.{offsetsAt, offsetCount}
-use Rattle.annotations.specs.Directories.{Directory, directoryAt, directoryHead}
-use Rattle.annotations.specs.Items.{Item, itemAt, itemVisibility}
-use Rattle.annotations.proofs.Fixed.{Along, along-first, along-next, along-stop, along-done, along-four, along-eight}
-use Rattle.annotations.proofs.ListLaws.{on-word, count-room}
-use Rattle.annotations.proofs.DirectoryLaws.{on-head, directory-room}
+use Rattle.annotation_items.specs.declared.Visibility.{Visibility}
+use Rattle.annotation_items.specs.declared.Visibility.the-variants as N
+use Rattle.annotation_directories.specs.declared.HeadAnswer.the-variants as H
+use Rattle.annotation_lists.specs.declared.Word.{Word}
+use Rattle.annotation_lists.specs.declared.Word.the-variants as W
+use Rattle.annotation_lists.specs.Answers.{word-outcome}
+use Rattle.annotation_items.specs.Answers.{visibility-outcome}
+use Rattle.annotation_lists.specs.Fixed.{entriesFrom}
+use Rattle.annotation_lists.specs.Offsets.{offsetsAt, offsetCount}
+use Rattle.annotation_directories.specs.Directories.{Directory, directoryAt, directoryHead}
+use Rattle.annotation_items.specs.Items.{Item, itemAt, itemVisibility}
+use Rattle.annotation_lists.proofs.Fixed.{Along, along-first, along-next, along-stop, along-done, along-four, along-eight}
+use Rattle.annotation_lists.proofs.Laws.{on-word, count-room}
+use Rattle.annotation_directories.proofs.Laws.{on-head, directory-room}
 use Rattle.annotation_walk.specs.Below.{itemFrom, setBelow, setFrom, referencesBelow, entryFrom, headBelow, directoryBelow, itemsPass, ownAccepted, setsPass, oneBelow, oneFrom, belowPass, listsBelow}
 
 -- ---- the loops

@@ -7,11 +7,11 @@ use lib.ListN.{length}
 use Rattle.refusal.specs.Outcome.{Outcome, answer, _>>=_, present, accepted}
 use Rattle.word.specs.Words.{u32At}
 use Rattle.frame.specs.declared.Frame.{Frame}
-use Rattle.annotations.specs.declared.Head.{Head}
-use Rattle.annotations.specs.Fixed.{entriesFrom}
-use Rattle.annotations.specs.Offsets.{setAt, referencesAt}
-use Rattle.annotations.specs.Directories.{directoryAt}
-use Rattle.annotations.specs.Items.{Item, itemAt}
+use Rattle.annotation_directories.specs.declared.Head.{Head}
+use Rattle.annotation_lists.specs.Fixed.{entriesFrom}
+use Rattle.annotation_lists.specs.Offsets.{setAt, referencesAt}
+use Rattle.annotation_directories.specs.Directories.{directoryAt}
+use Rattle.annotation_items.specs.Items.{Item, itemAt}
 
 -- an entry: its index, its offset, and what lies below it
 pub record Under (B : Type 0) : Type 0 where

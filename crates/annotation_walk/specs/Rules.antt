@@ -7,9 +7,11 @@ use lib.ListN.{length}
 use Rattle.refusal.specs.Exact.{Present, Each}
 use Rattle.word.specs.Words.{u32At}
 use Rattle.frame.specs.declared.Frame.{Frame}
-use Rattle.annotations.specs.Directories.{Directory}
-use Rattle.annotations.specs.Items.{Item}
-use Rattle.annotations.specs.Rules.{SetRule, ReferencesRule, DirectoryRule, ItemRule}
+use Rattle.annotation_directories.specs.Directories.{Directory}
+use Rattle.annotation_items.specs.Items.{Item}
+use Rattle.annotation_lists.specs.Rules.{SetRule, ReferencesRule}
+use Rattle.annotation_directories.specs.Rules.{DirectoryRule}
+use Rattle.annotation_items.specs.Rules.{ItemRule}
 use Rattle.annotation_walk.specs.Below.{Under, Annotated}
 
 module _ (s : List ℕ) (f : Frame) where

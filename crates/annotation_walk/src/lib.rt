@@ -1,9 +1,9 @@
 // Going over annotation sets, reference lists and directories with all that lies below them: own rules first, then the items pointed at, in
 // stored order. Shared items are gone over each time they are reached.
-use annotations::Head;
-use annotations::HeadAnswer;
-use annotations::Visibility;
-use annotations::Word;
+use annotation_directories::Head;
+use annotation_directories::HeadAnswer;
+use annotation_items::Visibility;
+use annotation_lists::Word;
 use frame::Frame;
 use refusal::Checked;
 ghost use mathlib.Core.Path.{_≡_};
@@ -23,7 +23,7 @@ fn items_pass(s: &[u8], f: Frame, from: usize, count: u32) -> Checked
     let mut at = from;
     let mut left = count;
     while 0 < left {
-        match annotations::annotation_item(s, f, word::u32_at(s, at, order) as usize) {
+        match annotation_items::annotation_item(s, f, word::u32_at(s, at, order) as usize) {
             Visibility::Refused(r) => {
                 return Checked::Refused(r);
             }
@@ -40,7 +40,7 @@ fn items_pass(s: &[u8], f: Frame, from: usize, count: u32) -> Checked
 pub fn check_set(s: &[u8], f: Frame, item: usize) -> Checked
     ensures { λ r. ⌜ checked-outcome r ≡ setAccepted (now (s .entry)) f item ⌝ }
 {
-    match annotations::set_count(s, f, item) {
+    match annotation_lists::set_count(s, f, item) {
         Word::Refused(r) => Checked::Refused(r),
         Word::Got(count) => items_pass(s, f, item + 4, count),
     }
@@ -82,7 +82,7 @@ fn sets_pass(s: &[u8], f: Frame, from: usize, count: u32) -> Checked
 pub fn check_references(s: &[u8], f: Frame, item: usize) -> Checked
     ensures { λ r. ⌜ checked-outcome r ≡ referencesAccepted (now (s .entry)) f item ⌝ }
 {
-    match annotations::reference_count(s, f, item) {
+    match annotation_lists::reference_count(s, f, item) {
         Word::Refused(r) => Checked::Refused(r),
         Word::Got(count) => sets_pass(s, f, item + 4, count),
     }
@@ -144,7 +144,7 @@ fn lists_below(s: &[u8], f: Frame, item: usize, h: Head) -> Checked
 pub fn check_directory(s: &[u8], f: Frame, item: usize) -> Checked
     ensures { λ r. ⌜ checked-outcome r ≡ directoryAccepted (now (s .entry)) f item ⌝ }
 {
-    match annotations::directory(s, f, item) {
+    match annotation_directories::directory(s, f, item) {
         HeadAnswer::Refused(r) => Checked::Refused(r),
         HeadAnswer::Got(h) => lists_below(s, f, item, h),
     }

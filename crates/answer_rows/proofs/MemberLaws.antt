@@ -20,16 +20,18 @@ use Rattle.debug_readers.specs.declared.MaybeName as Name
 use Rattle.code_item.specs.declared.CoverAnswer as Cover
 use Rattle.refusal.specs.declared.Checked as Checked
 use Rattle.directory_readers.specs.declared.DirectoryAnswer as Directory
-use Rattle.annotations.specs.declared.EntryAnswer as Place
-use Rattle.annotations.specs.declared.Word as Word
-use Rattle.annotations.specs.declared.SummaryAnswer as Annotation
+use Rattle.annotation_directories.specs.declared.EntryAnswer as Place
+use Rattle.annotation_lists.specs.declared.Word as Word
+use Rattle.annotation_items.specs.declared.SummaryAnswer as Annotation
 use Rattle.class_readers.specs.Answers.{maybe-data as data-outcome, maybe-member as found-outcome, maybe-count as written-outcome}
 use Rattle.code_readers.specs.Answers.{maybe-code as code-outcome, maybe-try as try-outcome, maybe-handler as handler-outcome, maybe-pair as pair-outcome}
 use Rattle.debug_readers.specs.Answers.{maybe-debug as debug-outcome, maybe-name as name-outcome}
 use Rattle.code_item.specs.Answers.{cover-outcome}
 use Rattle.refusal.specs.Answers.{checked-outcome}
 use Rattle.directory_readers.specs.Answers.{directory-outcome}
-use Rattle.annotations.specs.Answers.{entry-outcome as place-outcome, word-outcome, summary-outcome as annotation-outcome}
+use Rattle.annotation_lists.specs.Answers.{word-outcome}
+use Rattle.annotation_directories.specs.Answers.{entry-outcome as place-outcome}
+use Rattle.annotation_items.specs.Answers.{summary-outcome as annotation-outcome}
 use Rattle.answer_rows.specs.Words.{annotation-words, counts-words, debug-words, directory-words, found-words, handler-words, no-words, number-words, option-words, outline-words, pair-words, place-words, row, told, told-if, try-words}
 use Rattle.answer_rows.proofs.Laws.{arm}
 

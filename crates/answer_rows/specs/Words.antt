@@ -26,9 +26,9 @@ use Rattle.code_item.specs.declared.Outline.{Outline}
 use Rattle.code_item.specs.Code.{Linked, Handed}
 use Rattle.handlers.specs.declared.Pair.{Pair}
 use Rattle.debug_info.specs.Debug as B
-use Rattle.annotations.specs.declared.Head as H
-use Rattle.annotations.specs.Directories as N
-use Rattle.annotations.specs.Items.{Summary}
+use Rattle.annotation_directories.specs.declared.Head as H
+use Rattle.annotation_directories.specs.Directories as N
+use Rattle.annotation_items.specs.Items.{Summary}
 
 abbrev pub padded : ℕ → List ℕ → List ℕ
 padded zero ws = []

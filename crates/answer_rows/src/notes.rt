@@ -3,7 +3,9 @@ use super::words;
 ghost use mathlib.Core.Path.{_≡_};
 ghost use Rattle.refusal.specs.Answers.{checked-outcome};
 ghost use Rattle.directory_readers.specs.Answers.{directory-outcome};
-ghost use Rattle.annotations.specs.Answers.{entry-outcome as place-outcome, word-outcome, summary-outcome as annotation-outcome};
+ghost use Rattle.annotation_lists.specs.Answers.{word-outcome};
+ghost use Rattle.annotation_directories.specs.Answers.{entry-outcome as place-outcome};
+ghost use Rattle.annotation_items.specs.Answers.{summary-outcome as annotation-outcome};
 ghost use Rattle.answer_rows.specs.Words.{annotation-words, directory-words, no-words, number-words, place-words, told, told-if};
 
 pub fn checked_row(a: refusal::Checked) -> [u64; 20]
@@ -30,12 +32,12 @@ pub fn directory_row(a: directory_readers::DirectoryAnswer) -> [u64; 20]
     }
 }
 
-pub fn place_row(a: annotations::EntryAnswer) -> [u64; 20]
+pub fn place_row(a: annotation_directories::EntryAnswer) -> [u64; 20]
     ensures { λ w. ⌜ w ≡ told place-words (place-outcome a) ⌝ }
 {
     match a {
-        annotations::EntryAnswer::Refused(r) => words::refused(r),
-        annotations::EntryAnswer::Got { index, offset } => words::four(
+        annotation_directories::EntryAnswer::Refused(r) => words::refused(r),
+        annotation_directories::EntryAnswer::Got { index, offset } => words::four(
             index as u64,
             offset as u64,
             0,
@@ -44,21 +46,21 @@ pub fn place_row(a: annotations::EntryAnswer) -> [u64; 20]
     }
 }
 
-pub fn word_row(a: annotations::Word) -> [u64; 20]
+pub fn word_row(a: annotation_lists::Word) -> [u64; 20]
     ensures { λ w. ⌜ w ≡ told number-words (word-outcome a) ⌝ }
 {
     match a {
-        annotations::Word::Refused(r) => words::refused(r),
-        annotations::Word::Got(n) => words::one(n),
+        annotation_lists::Word::Refused(r) => words::refused(r),
+        annotation_lists::Word::Got(n) => words::one(n),
     }
 }
 
-pub fn annotation_row(a: annotations::SummaryAnswer) -> [u64; 20]
+pub fn annotation_row(a: annotation_items::SummaryAnswer) -> [u64; 20]
     ensures { λ w. ⌜ w ≡ told annotation-words (annotation-outcome a) ⌝ }
 {
     match a {
-        annotations::SummaryAnswer::Refused(r) => words::refused(r),
-        annotations::SummaryAnswer::Got {
+        annotation_items::SummaryAnswer::Refused(r) => words::refused(r),
+        annotation_items::SummaryAnswer::Got {
             visibility,
             type_index,
             count,

@@ -12,10 +12,10 @@ use Rattle.header.specs.declared.Header.{Header}
 use Rattle.header.specs.Header.{section, frame-of}
 use Rattle.header.proofs.Laws.{laws as header-laws}
 use Rattle.class_ids.proofs.Laws.{laws as class-laws}
-use Rattle.annotations.specs.declared.Head.{Head}
-use Rattle.annotations.specs.declared.HeadAnswer.{HeadAnswer}
-use Rattle.annotations.specs.Answers.{head-outcome}
-use Rattle.annotations.specs.Directories.{Entry, directoryHead, directoryEntry}
+use Rattle.annotation_directories.specs.declared.Head.{Head}
+use Rattle.annotation_directories.specs.declared.HeadAnswer.{HeadAnswer}
+use Rattle.annotation_directories.specs.Answers.{head-outcome}
+use Rattle.annotation_directories.specs.Directories.{Entry, directoryHead, directoryEntry}
 use Rattle.directory_readers.specs.declared.Reached.{Reached}
 use Rattle.directory_readers.specs.declared.ReachedAnswer.{ReachedAnswer}
 use Rattle.directory_readers.specs.Answers.{reached-outcome}

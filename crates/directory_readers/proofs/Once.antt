@@ -4,7 +4,7 @@ use mathlib.Core.Path.{_≡_, refl}
 use mathlib.Core.Option.{Option, none, some}
 use Rattle.refusal.specs.Outcome.{Outcome, answer, refused}
 use Rattle.refusal.proofs.Laws.{one-to-one}
-use Rattle.annotations.specs.declared.Head.{Head}
+use Rattle.annotation_directories.specs.declared.Head.{Head}
 use Rattle.directory_readers.specs.declared.Reached.{Reached}
 use Rattle.directory_readers.specs.declared.ReachedAnswer as R
 use Rattle.directory_readers.specs.declared.DirectoryAnswer as D

@@ -8,8 +8,8 @@ use Rattle.refusal.specs.Outcome.{Outcome, answer, refused, _>>=_, present}
 use Rattle.header.specs.declared.Header.{Header}
 use Rattle.header.specs.Header.{headerAt, section, frame-of}
 use Rattle.table_readers.specs.Tables.{classIn}
-use Rattle.annotations.specs.declared.Head.{Head}
-use Rattle.annotations.specs.Directories.{Entry, directoryHead, directoryEntry}
+use Rattle.annotation_directories.specs.declared.Head.{Head}
+use Rattle.annotation_directories.specs.Directories.{Entry, directoryHead, directoryEntry}
 use Rattle.directory_readers.specs.declared.Reached.{Reached}
 
 -- where the directory of class c is, 0 where it has none

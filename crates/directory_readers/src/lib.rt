@@ -1,14 +1,14 @@
 // The readers of the annotation directory of a class, each over a lent file: header (1 to 6), 7 for the class, its record, the directory whole, 7 for the
 // entry. They hold no values, so none of them reads the map. One piece serves the three lists: fields 0, methods 1, parameters 2.
-use annotations::EntryAnswer;
-use annotations::Head;
-use annotations::HeadAnswer;
+use annotation_directories::EntryAnswer;
+use annotation_directories::Head;
+use annotation_directories::HeadAnswer;
 use class_ids::ClassAnswer;
 use header::Header;
 use header::HeaderAnswer;
 use refusal::Refusal;
 ghost use mathlib.Core.Path.{_≡_};
-ghost use Rattle.annotations.specs.Answers.{entry-outcome};
+ghost use Rattle.annotation_directories.specs.Answers.{entry-outcome};
 ghost use Rattle.directory_readers.specs.Directories.{directoryIn, directoryOf, headIn, directory, entryIn, entryOf};
 ghost use Rattle.directory_readers.specs.Answers.{reached-outcome, directory-outcome};
 
@@ -57,7 +57,7 @@ pub fn head_in(f: &[u8], h: Header, at: u32) -> DirectoryAnswer
     ensures { λ r. ⌜ directory-outcome r ≡ headIn (now (f .entry)) h at ⌝ }
 {
     if 0 < at {
-        return match annotations::directory(
+        return match annotation_directories::directory(
             header::section_of(f, h),
             header::frame_of(h, 0),
             at as usize,
@@ -87,7 +87,7 @@ pub fn entry_in(f: &[u8], h: Header, at: u32, list: u32, k: u32) -> EntryAnswer
     ensures { λ r. ⌜ entry-outcome r ≡ entryIn (now (f .entry)) h at list k ⌝ }
 {
     if 0 < at {
-        return annotations::directory_entry(
+        return annotation_directories::directory_entry(
             header::section_of(f, h),
             header::frame_of(h, 0),
             at as usize,

@@ -1,7 +1,7 @@
 // Kinds 32 to 43: annotation items, sets, reference lists, directories, and all that lies below them.
-use annotations::HeadAnswer;
-use annotations::Visibility;
-use annotations::Word;
+use annotation_directories::HeadAnswer;
+use annotation_items::Visibility;
+use annotation_lists::Word;
 use directory_readers::DirectoryAnswer;
 use frame::Frame;
 
@@ -21,33 +21,33 @@ fn directory(h: HeadAnswer) -> DirectoryAnswer {
 
 pub fn row(s: &[u8], kind: u8, f: Frame, item: usize, k: u32) -> [u64; 20] {
     if kind == 32 {
-        return answer_rows::word_row(visibility(annotations::annotation_item(s, f, item)));
+        return answer_rows::word_row(visibility(annotation_items::annotation_item(s, f, item)));
     }
     if kind == 33 {
-        return answer_rows::annotation_row(annotations::annotation(s, f, item));
+        return answer_rows::annotation_row(annotation_items::annotation(s, f, item));
     }
     if kind == 34 {
-        return answer_rows::element_row(annotations::annotation_element(s, f, item, k));
+        return answer_rows::element_row(annotation_items::annotation_element(s, f, item, k));
     }
     if kind == 35 {
-        return answer_rows::word_row(annotations::set_count(s, f, item));
+        return answer_rows::word_row(annotation_lists::set_count(s, f, item));
     }
     if kind == 36 {
-        return answer_rows::word_row(annotations::set_offset(s, f, item, k));
+        return answer_rows::word_row(annotation_lists::set_offset(s, f, item, k));
     }
     if kind == 37 {
-        return answer_rows::word_row(annotations::reference_count(s, f, item));
+        return answer_rows::word_row(annotation_lists::reference_count(s, f, item));
     }
-    answer_rows::word_row(annotations::reference_offset(s, f, item, k))
+    answer_rows::word_row(annotation_lists::reference_offset(s, f, item, k))
 }
 
 // Entry k of a list of a directory, and the checks.
 pub fn directory_row(s: &[u8], kind: u8, f: Frame, item: usize, list: u32, k: u32) -> [u64; 20] {
     if kind == 39 {
-        return answer_rows::directory_row(directory(annotations::directory(s, f, item)));
+        return answer_rows::directory_row(directory(annotation_directories::directory(s, f, item)));
     }
     if kind == 40 {
-        return answer_rows::place_row(annotations::directory_entry(s, f, item, list, k));
+        return answer_rows::place_row(annotation_directories::directory_entry(s, f, item, list, k));
     }
     if kind == 41 {
         return answer_rows::checked_row(annotation_walk::check_set(s, f, item));

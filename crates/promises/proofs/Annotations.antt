@@ -21,12 +21,16 @@ use Rattle.header.specs.Header.{section, frame-of}
 use Rattle.encoded_value.specs.Tree.{Named}
 use Rattle.value_bodies.specs.Bodies.{pick}
 use Rattle.table_readers.specs.Head.{mappedAt, openedAt}
-use Rattle.annotations.specs.Fixed.{Fixed, fixedAt, entriesFrom}
-use Rattle.annotations.specs.Offsets.{wordAt, offsetOf, offsetAt, offsetsAt, offsetCount, offsetNumber}
-use Rattle.annotations.specs.Directories.{Entry, countsAt, headAt, entryOf, entryAt, listAt, listsAt, directoryAt, directoryHead, listOf, directoryEntry}
-use Rattle.annotations.specs.Items.{Item, itemAt, itemSummary, itemElement}
-use Rattle.annotations.specs.Rules.{OffsetAllowed, EntryRule, ItemRule}
-use Rattle.annotations.proofs.Exactly.{offsets-exact, directory-exact, item-exact}
+use Rattle.annotation_lists.specs.Fixed.{Fixed, fixedAt, entriesFrom}
+use Rattle.annotation_lists.specs.Offsets.{wordAt, offsetOf, offsetAt, offsetsAt, offsetCount, offsetNumber}
+use Rattle.annotation_directories.specs.Directories.{Entry, countsAt, headAt, entryOf, entryAt, listAt, listsAt, directoryAt, directoryHead, listOf, directoryEntry}
+use Rattle.annotation_items.specs.Items.{Item, itemAt, itemSummary, itemElement}
+use Rattle.annotation_lists.specs.Rules.{OffsetAllowed}
+use Rattle.annotation_directories.specs.Rules.{EntryRule}
+use Rattle.annotation_items.specs.Rules.{ItemRule}
+use Rattle.annotation_lists.proofs.Exactly.{offsets-exact}
+use Rattle.annotation_directories.proofs.Exactly.{directory-exact}
+use Rattle.annotation_items.proofs.Exactly.{item-exact}
 use Rattle.annotation_walk.specs.Below.{Under, Annotated}
 use Rattle.annotation_walk.specs.Rules.{SetBelow, ReferencesBelow, EntryBelow, DirectoryBelow}
 use Rattle.directory_readers.specs.declared.Reached.{Reached}

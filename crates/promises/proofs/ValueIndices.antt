@@ -19,9 +19,9 @@ use Rattle.encoded_value.specs.Tree.{Named, Annotation, Tree, byte, short, char
 use Rattle.encoded_value.specs.Rules.{KindWith, an-array, an-annotation, no-body, Value, AnnotationBody}
 use Rattle.encoded_value.proofs.Bounds.{named-with-extent, value-extent}
 use Rattle.decoded_value.proofs.Laws.{all-below, all-there}
-use Rattle.annotations.specs.Fixed.{Fixed}
-use Rattle.annotations.specs.Directories.{Entry}
-use Rattle.annotations.specs.Rules.{EntryRule}
+use Rattle.annotation_lists.specs.Fixed.{Fixed}
+use Rattle.annotation_directories.specs.Directories.{Entry}
+use Rattle.annotation_directories.specs.Rules.{EntryRule}
 use Rattle.annotation_walk.specs.Below.{Under, Annotated}
 use Rattle.annotation_walk.specs.Rules.{EntryBelow, DirectoryBelow}
 use Rattle.whole_check.specs.File.{File}

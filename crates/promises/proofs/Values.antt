@@ -25,7 +25,7 @@ use Rattle.encoded_value.proofs.Bounds.{Extent, Ends, uleb-extent, named-with-e
 use Rattle.encoded_value.proofs.Nested.{nested-array, nested-annotation}
 use Rattle.decoded_value.specs.Shown.{shown}
 use Rattle.value_bodies.specs.Bodies.{pick, arrayCount, arrayValue, annotationNoted, annotationElement}
-use Rattle.annotations.specs.Items.{Item}
+use Rattle.annotation_items.specs.Items.{Item}
 use Rattle.class_ids.specs.declared.Class.{Class}
 use Rattle.class_ids.specs.Rules.{ClassRule}
 use Rattle.value_readers.specs.Bodies as B

@@ -9,9 +9,9 @@ use Rattle.refusal.specs.Exact.{At}
 use Rattle.encoded_value.specs.Tree.{Named}
 use Rattle.decoded_value.specs.Shown.{shown}
 use Rattle.value_bodies.specs.Bodies.{ShownElement}
-use Rattle.annotations.specs.declared.Head.{Head}
-use Rattle.annotations.specs.Directories.{Entry}
-use Rattle.annotations.specs.Items.{Item, Summary}
+use Rattle.annotation_directories.specs.declared.Head.{Head}
+use Rattle.annotation_directories.specs.Directories.{Entry}
+use Rattle.annotation_items.specs.Items.{Item, Summary}
 use Rattle.annotation_walk.specs.Below.{Under, Annotated}
 use Rattle.directory_readers.specs.Directories.{directory, entryOf}
 use Rattle.set_readers.specs.Sets.{classSet, entrySet, parameterSet, parameterSetCount, countOf, placeOf}

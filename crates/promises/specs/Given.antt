@@ -22,7 +22,7 @@ use Rattle.code_item.specs.Code.{outline, handed}
 use Rattle.debug_info.specs.Debug.{Debug}
 use Rattle.encoded_value.specs.Tree.{Named, Tree, array, annotation, trees, elements-of}
 use Rattle.decoded_value.specs.Shown.{shown}
-use Rattle.annotations.specs.Items.{Item}
+use Rattle.annotation_items.specs.Items.{Item}
 use Rattle.annotation_walk.specs.Below.{Under}
 use Rattle.table_readers.specs.Head.{mapEntry}
 use Rattle.table_readers.specs.Strings.{stringNumber}

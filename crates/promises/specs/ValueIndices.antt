@@ -7,7 +7,7 @@ use lib.ListN.{length}
 use lib.Dec.{eqb}
 use Rattle.refusal.specs.Exact.{At}
 use Rattle.encoded_value.specs.Tree.{Named, index, annotation, elements-of}
-use Rattle.annotations.specs.Items.{Item}
+use Rattle.annotation_items.specs.Items.{Item}
 use Rattle.annotation_walk.specs.Below.{Under}
 use Rattle.class_walk.specs.Classes.{ClassBelow}
 use Rattle.whole_check.specs.File.{File}

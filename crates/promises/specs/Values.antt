@@ -11,7 +11,7 @@ use Rattle.encoded_value.specs.Kinds.{walkOf}
 use Rattle.encoded_value.specs.Tree.{Named, Tree, array, annotation, trees, elements-of}
 use Rattle.encoded_value.specs.Rules.{ArrayBody}
 use Rattle.decoded_value.specs.Shown.{shown}
-use Rattle.annotations.specs.Items.{Item}
+use Rattle.annotation_items.specs.Items.{Item}
 use Rattle.value_readers.specs.Bodies.{arrayOf, arrayValueOf, bodyOf, elementOf}
 use Rattle.value_readers.specs.Statics.{staticCount, staticValue}
 use Rattle.class_walk.specs.Classes.{ClassBelow}

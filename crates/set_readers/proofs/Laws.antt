@@ -11,12 +11,13 @@ use Rattle.refusal.proofs.Laws.{said, tests, calls}
 use Rattle.frame.specs.declared.Frame.{Frame}
 use Rattle.header.specs.declared.Header.{Header}
 use Rattle.header.specs.Header.{section, frame-of}
-use Rattle.annotations.specs.declared.Head.{Head}
-use Rattle.annotations.specs.declared.Word.{Word}
-use Rattle.annotations.specs.declared.EntryAnswer.{EntryAnswer}
-use Rattle.annotations.specs.Answers.{entry-outcome, word-outcome}
-use Rattle.annotations.specs.Offsets.{offsetCount, offsetNumber}
-use Rattle.annotations.specs.Directories.{Entry}
+use Rattle.annotation_directories.specs.declared.Head.{Head}
+use Rattle.annotation_lists.specs.declared.Word.{Word}
+use Rattle.annotation_directories.specs.declared.EntryAnswer.{EntryAnswer}
+use Rattle.annotation_lists.specs.Answers.{word-outcome}
+use Rattle.annotation_directories.specs.Answers.{entry-outcome}
+use Rattle.annotation_lists.specs.Offsets.{offsetCount, offsetNumber}
+use Rattle.annotation_directories.specs.Directories.{Entry}
 use Rattle.directory_readers.specs.declared.Reached.{Reached}
 use Rattle.directory_readers.specs.declared.DirectoryAnswer.{DirectoryAnswer}
 use Rattle.directory_readers.specs.Answers.{directory-outcome}

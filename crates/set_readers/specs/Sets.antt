@@ -8,8 +8,8 @@ use lib.Dec.{ltb}
 use Rattle.refusal.specs.Outcome.{Outcome, answer, refused, _>>=_}
 use Rattle.header.specs.declared.Header.{Header}
 use Rattle.header.specs.Header.{section, frame-of}
-use Rattle.annotations.specs.declared.Head.{Head}
-use Rattle.annotations.specs.Offsets.{offsetCount, offsetNumber}
+use Rattle.annotation_directories.specs.declared.Head.{Head}
+use Rattle.annotation_lists.specs.Offsets.{offsetCount, offsetNumber}
 use Rattle.directory_readers.specs.declared.Reached.{Reached}
 use Rattle.directory_readers.specs.Directories.{directoryOf, headIn, entryIn}
 

@@ -1,14 +1,14 @@
 // The readers of annotations by number, each over a lent file: how many a set has, and where each is; the directory first, whole, then each item on the way,
 // each followed by 7 for its inner number. One piece serves the sets of class, field, method and parameter; a set that is absent is empty.
-use annotations::EntryAnswer;
-use annotations::Word;
+use annotation_directories::EntryAnswer;
+use annotation_lists::Word;
 use directory_readers::DirectoryAnswer;
 use directory_readers::Reached;
 use directory_readers::ReachedAnswer;
 use header::Header;
 use refusal::Refusal;
 ghost use mathlib.Core.Path.{_≡_};
-ghost use Rattle.annotations.specs.Answers.{word-outcome};
+ghost use Rattle.annotation_lists.specs.Answers.{word-outcome};
 ghost use Rattle.set_readers.specs.Sets.{classSetIn, classSet, entrySetIn, entrySet, parameterSetIn, parameterSet};
 ghost use Rattle.set_readers.specs.Sets.{referencesIn, parameterSetCount, setCount, setNumber, countOf, placeOf};
 ghost use Rattle.directory_readers.specs.Answers.{reached-outcome};
@@ -71,7 +71,7 @@ fn entry_set(f: &[u8], c: u32, list: u32, e: u32) -> ReachedAnswer
 fn parameter_set_in(f: &[u8], h: Header, at: u32, p: u32) -> ReachedAnswer
     ensures { λ r. ⌜ reached-outcome r ≡ parameterSetIn (now (f .entry)) h at p ⌝ }
 {
-    match annotations::reference_offset(
+    match annotation_lists::reference_offset(
         header::section_of(f, h),
         header::frame_of(h, 0),
         at as usize,
@@ -97,7 +97,7 @@ fn parameter_set(f: &[u8], c: u32, e: u32, p: u32) -> ReachedAnswer
 fn references_in(f: &[u8], h: Header, at: u32) -> Word
     ensures { λ r. ⌜ word-outcome r ≡ referencesIn (now (f .entry)) h at ⌝ }
 {
-    annotations::reference_count(
+    annotation_lists::reference_count(
         header::section_of(f, h),
         header::frame_of(h, 0),
         at as usize,
@@ -122,7 +122,7 @@ fn set_count(f: &[u8], h: Header, at: u32) -> Word
     ensures { λ r. ⌜ word-outcome r ≡ setCount (now (f .entry)) h at ⌝ }
 {
     if 0 < at {
-        return annotations::set_count(
+        return annotation_lists::set_count(
             header::section_of(f, h),
             header::frame_of(h, 0),
             at as usize,
@@ -135,7 +135,7 @@ fn set_number(f: &[u8], h: Header, at: u32, k: u32) -> Word
     ensures { λ r. ⌜ word-outcome r ≡ setNumber (now (f .entry)) h at k ⌝ }
 {
     if 0 < at {
-        return annotations::set_offset(
+        return annotation_lists::set_offset(
             header::section_of(f, h),
             header::frame_of(h, 0),
             at as usize,

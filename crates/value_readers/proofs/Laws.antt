@@ -25,7 +25,7 @@ use Rattle.value_bodies.specs.Bodies.{Noted, ShownElement, arrayCount, arrayVal
 use Rattle.value_bodies.specs.declared.Count.{Count}
 use Rattle.value_bodies.specs.declared.Head.{Head}
 use Rattle.value_bodies.specs.Answers.{count-outcome, head-outcome}
-use Rattle.annotations.specs.Items.{Summary, itemSummary, itemElement}
+use Rattle.annotation_items.specs.Items.{Summary, itemSummary, itemElement}
 use Rattle.value_readers.specs.Opening.{walk-in}
 use Rattle.value_readers.specs.Bodies.{Sized, arrayBody, NotedSize, notedBody}
 

@@ -4,7 +4,7 @@ use mathlib.Core.List.{List}
 use Rattle.refusal.specs.Outcome.{Outcome, _>>=_}
 use Rattle.header.specs.Header.{section, frame-of}
 use Rattle.value_bodies.specs.Bodies.{ShownElement}
-use Rattle.annotations.specs.Items.{Summary, itemSummary, itemElement}
+use Rattle.annotation_items.specs.Items.{Summary, itemSummary, itemElement}
 use Rattle.value_readers.specs.Opening.{openedWithin}
 
 unfoldable pub annotationOf : List ℕ → ℕ → Outcome Summary

@@ -1,10 +1,10 @@
 // Annotation items by place. They hold values, so the map is read first.
-use annotations::SummaryAnswer;
+use annotation_items::SummaryAnswer;
 use table_readers::OpenedAnswer;
 use value_bodies::Element;
 ghost use mathlib.Core.Path.{_≡_};
 ghost use Rattle.value_bodies.specs.Answers.{element-outcome};
-ghost use Rattle.annotations.specs.Answers.{summary-outcome};
+ghost use Rattle.annotation_items.specs.Answers.{summary-outcome};
 ghost use Rattle.value_readers.specs.Items.{annotationOf, elementOf};
 
 // The annotation item at a place: its visibility, its type, and how many elements it has.
@@ -15,7 +15,7 @@ pub fn annotation(f: &[u8], place: usize) -> SummaryAnswer
         OpenedAnswer::Refused(r) => SummaryAnswer::Refused(r),
         OpenedAnswer::Got(o) => {
             let h = o.header;
-            annotations::annotation(
+            annotation_items::annotation(
                 header::section_of(f, h),
                 header::frame_of(h, o.handles),
                 place,
@@ -32,7 +32,7 @@ pub fn annotation_element(f: &[u8], place: usize, k: u32) -> Element
         OpenedAnswer::Refused(r) => Element::Refused(r),
         OpenedAnswer::Got(o) => {
             let h = o.header;
-            annotations::annotation_element(
+            annotation_items::annotation_element(
                 header::section_of(f, h),
                 header::frame_of(h, o.handles),
                 place,

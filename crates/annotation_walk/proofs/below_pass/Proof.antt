@@ -1,6 +1,6 @@
 use Rattle.annotation_walk.proofs.Laws.{one-laws as laws}
 use Rattle.annotation_walk.specs.Below.{oneFrom}
-use Rattle.annotations.proofs.Fixed.{Along}
+use Rattle.annotation_lists.proofs.Fixed.{Along}
 use Rattle.annotation_walk.proofs.below_pass.Statement.{statement}
 use Rattle.annotation_walk.proofs.below_pass.Tie as tie
 use Rattle.annotation_walk.proofs.below_pass.Reads as reads

@@ -4,7 +4,7 @@ use Rattle.annotation_walk.proofs.check_directory.Tie as tie
 use Rattle.annotation_walk.proofs.check_directory.Reads as reads
 use Rattle.annotation_walk.proofs.check_directory.Lts as lts
 use Rattle.annotation_walk.proofs.lists_below.Reads as lists-below-reads
-use Rattle.annotations.proofs.directory.Reads as directory-reads
+use Rattle.annotation_directories.proofs.directory.Reads as directory-reads
 
 -- src/lib.rt:147:11
 directory-requires : tie.Need-directory-requires

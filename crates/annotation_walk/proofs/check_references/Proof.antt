@@ -4,7 +4,7 @@ use Rattle.annotation_walk.proofs.check_references.Tie as tie
 use Rattle.annotation_walk.proofs.check_references.Reads as reads
 use Rattle.annotation_walk.proofs.check_references.Lts as lts
 use Rattle.annotation_walk.proofs.sets_pass.Reads as sets-pass-reads
-use Rattle.annotations.proofs.reference_count.Reads as reference-count-reads
+use Rattle.annotation_lists.proofs.reference_count.Reads as reference-count-reads
 
 -- src/lib.rt:85:11
 reference-count-requires : tie.Need-reference-count-requires

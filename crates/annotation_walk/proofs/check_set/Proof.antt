@@ -4,7 +4,7 @@ use Rattle.annotation_walk.proofs.check_set.Tie as tie
 use Rattle.annotation_walk.proofs.check_set.Reads as reads
 use Rattle.annotation_walk.proofs.check_set.Lts as lts
 use Rattle.annotation_walk.proofs.items_pass.Reads as items-pass-reads
-use Rattle.annotations.proofs.set_count.Reads as set-count-reads
+use Rattle.annotation_lists.proofs.set_count.Reads as set-count-reads
 
 -- src/lib.rt:43:11
 set-count-requires : tie.Need-set-count-requires

@@ -1,11 +1,11 @@
 use Rattle.annotation_walk.proofs.Laws.{item-laws as laws}
 use Rattle.annotation_walk.specs.Below.{itemFrom}
-use Rattle.annotations.proofs.Fixed.{Along}
+use Rattle.annotation_lists.proofs.Fixed.{Along}
 use Rattle.annotation_walk.proofs.items_pass.Statement.{statement}
 use Rattle.annotation_walk.proofs.items_pass.Tie as tie
 use Rattle.annotation_walk.proofs.items_pass.Reads as reads
 use Rattle.annotation_walk.proofs.items_pass.Lts as lts
-use Rattle.annotations.proofs.annotation_item.Reads as annotation-item-reads
+use Rattle.annotation_items.proofs.annotation_item.Reads as annotation-item-reads
 use Rattle.word.proofs.u32_at.Reads as u32-at-reads
 
 abbrev Inv-loop : tie.InvT-loop

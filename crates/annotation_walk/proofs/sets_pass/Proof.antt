@@ -1,6 +1,6 @@
 use Rattle.annotation_walk.proofs.Laws.{set-laws as laws}
 use Rattle.annotation_walk.specs.Below.{setFrom}
-use Rattle.annotations.proofs.Fixed.{Along}
+use Rattle.annotation_lists.proofs.Fixed.{Along}
 use Rattle.annotation_walk.proofs.sets_pass.Statement.{statement}
 use Rattle.annotation_walk.proofs.sets_pass.Tie as tie
 use Rattle.annotation_walk.proofs.sets_pass.Reads as reads

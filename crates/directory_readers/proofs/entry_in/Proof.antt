@@ -4,7 +4,7 @@ use Rattle.directory_readers.proofs.entry_in.Statement.{statement}
 use Rattle.directory_readers.proofs.entry_in.Tie as tie
 use Rattle.directory_readers.proofs.entry_in.Reads as reads
 use Rattle.directory_readers.proofs.entry_in.Lts as lts
-use Rattle.annotations.proofs.directory_entry.Reads as directory-entry-reads
+use Rattle.annotation_directories.proofs.directory_entry.Reads as directory-entry-reads
 use Rattle.header.proofs.frame_of.Reads as frame-of-reads
 use Rattle.header.proofs.section_of.Reads as section-of-reads
 

@@ -4,7 +4,7 @@ use Rattle.set_readers.proofs.parameter_set_in.Statement.{statement}
 use Rattle.set_readers.proofs.parameter_set_in.Tie as tie
 use Rattle.set_readers.proofs.parameter_set_in.Reads as reads
 use Rattle.set_readers.proofs.parameter_set_in.Lts as lts
-use Rattle.annotations.proofs.reference_offset.Reads as reference-offset-reads
+use Rattle.annotation_lists.proofs.reference_offset.Reads as reference-offset-reads
 use Rattle.header.proofs.frame_of.Reads as frame-of-reads
 use Rattle.header.proofs.section_of.Reads as section-of-reads
 

@@ -4,7 +4,7 @@ use Rattle.set_readers.proofs.set_count.Statement.{statement}
 use Rattle.set_readers.proofs.set_count.Tie as tie
 use Rattle.set_readers.proofs.set_count.Reads as reads
 use Rattle.set_readers.proofs.set_count.Lts as lts
-use Rattle.annotations.proofs.set_count.Reads as set-count-reads
+use Rattle.annotation_lists.proofs.set_count.Reads as set-count-reads
 use Rattle.header.proofs.frame_of.Reads as frame-of-reads
 use Rattle.header.proofs.section_of.Reads as section-of-reads
 

@@ -4,7 +4,7 @@ use Rattle.set_readers.proofs.set_number.Statement.{statement}
 use Rattle.set_readers.proofs.set_number.Tie as tie
 use Rattle.set_readers.proofs.set_number.Reads as reads
 use Rattle.set_readers.proofs.set_number.Lts as lts
-use Rattle.annotations.proofs.set_offset.Reads as set-offset-reads
+use Rattle.annotation_lists.proofs.set_offset.Reads as set-offset-reads
 use Rattle.header.proofs.frame_of.Reads as frame-of-reads
 use Rattle.header.proofs.section_of.Reads as section-of-reads
 

@@ -7,7 +7,7 @@ use Rattle.value_readers.proofs.items.annotation.Lts as lts
 use Rattle.value_readers.proofs.opening.open_within.Reads as open-within-reads
 use Rattle.header.proofs.section_of.Reads as section-of-reads
 use Rattle.header.proofs.frame_of.Reads as frame-of-reads
-use Rattle.annotations.proofs.annotation.Reads as annotation-reads
+use Rattle.annotation_items.proofs.annotation.Reads as annotation-reads
 
 open-within-requires : tie.Need-open-within-requires
 open-within-requires c κs = search laws

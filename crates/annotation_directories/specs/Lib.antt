@@ -1,0 +1,3 @@
+pub mod Directories
+pub mod Answers
+pub mod Rules

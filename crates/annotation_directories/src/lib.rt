@@ -1,0 +1,238 @@
+// The annotation directory. One piece serves its three lists of entries.
+// `s` is the file up to the data section's end, so that what runs past its length is 9; all faults of an item are at its own place.
+use annotation_lists::Word;
+use encoded_value::Step;
+use frame::Frame;
+use refusal::Checked;
+use refusal::Refusal;
+ghost use mathlib.Core.Path.{_≡_};
+ghost use Prim.Native.Nat.{_+_, _*_, _≤_};
+ghost use lib.ListN.{length};
+ghost use Rattle.encoded_value.specs.Answers.{step-outcome};
+ghost use Rattle.annotation_directories.specs.Directories.{countsAt, headAt, entryAt, entriesPass, listPast, listsPass, directoryHead, directoryEntry};
+ghost use Rattle.annotation_directories.specs.Directories.{countOf, beforeOf, limitOf};
+ghost use Rattle.refusal.specs.Answers.{checked-outcome};
+ghost use Rattle.annotation_directories.specs.Answers.{entry-outcome, head-outcome};
+
+// A field or method, and where its set or reference list is.
+pub enum EntryAnswer {
+    Got { index: u32, offset: u32 },
+    Refused(Refusal),
+}
+
+// A directory's head: where the class annotations are (0 for none), and how many fields, methods and parameter entries follow.
+pub struct Head {
+    pub set: u32,
+    pub fields: u32,
+    pub methods: u32,
+    pub parameters: u32,
+}
+
+pub enum HeadAnswer {
+    Got(Head),
+    Refused(Refusal),
+}
+
+// The three counts behind the class annotations' offset.
+fn counts_at(s: &[u8], f: Frame, item: usize, set: u32) -> HeadAnswer
+    requires { ⌜ item + 4 ≤ length (now s) ⌝ }
+    ensures { λ r. ⌜ head-outcome r ≡ countsAt (now (s .entry)) f item set ⌝ }
+{
+    match annotation_lists::word_at(s, f, item, item + 4) {
+        Word::Refused(r) => HeadAnswer::Refused(r),
+        Word::Got(fields) => match annotation_lists::word_at(s, f, item, item + 8) {
+            Word::Refused(r) => HeadAnswer::Refused(r),
+            Word::Got(methods) => match annotation_lists::word_at(s, f, item, item + 12) {
+                Word::Refused(r) => HeadAnswer::Refused(r),
+                Word::Got(parameters) => HeadAnswer::Got(Head {
+                    set,
+                    fields,
+                    methods,
+                    parameters,
+                }),
+            },
+        },
+    }
+}
+
+// The head, field by field.
+fn head_at(s: &[u8], f: Frame, item: usize) -> HeadAnswer
+    ensures { λ r. ⌜ head-outcome r ≡ headAt (now (s .entry)) f item ⌝ }
+{
+    match annotation_lists::word_at(s, f, item, item) {
+        Word::Refused(r) => HeadAnswer::Refused(r),
+        Word::Got(set) => {
+            if frame::is_allowed_or_absent(f.start, s.len(), true, set as usize) {
+                return counts_at(s, f, item, set);
+            }
+            HeadAnswer::Refused(Refusal {
+                number: 8,
+                place: item,
+            })
+        }
+    }
+}
+
+// The entry at a place: its index below a limit, then its offset.
+fn entry_at(s: &[u8], f: Frame, item: usize, limit: u32, at: usize) -> EntryAnswer
+    requires { ⌜ at + 8 ≤ length (now s) ⌝ }
+    ensures { λ r. ⌜ entry-outcome r ≡ entryAt (now (s .entry)) f item limit at ⌝ }
+{
+    let order = f.order;
+    let index = word::u32_at(s, at, order);
+    let offset = word::u32_at(s, at + 4, order);
+    if index < limit {
+        if frame::is_allowed(f.start, s.len(), true, offset as usize) {
+            return EntryAnswer::Got { index, offset };
+        }
+        return EntryAnswer::Refused(Refusal {
+            number: 8,
+            place: item,
+        });
+    }
+    EntryAnswer::Refused(Refusal {
+        number: 11,
+        place: item,
+    })
+}
+
+// All entries from a place on, which lie within the slice.
+fn entries_pass(s: &[u8], f: Frame, item: usize, limit: u32, from: usize, count: u32) -> Checked
+    requires { ⌜ from + 8 * count ≤ length (now s) ⌝ }
+    ensures { λ r. ⌜ checked-outcome r ≡ entriesPass (now (s .entry)) f item limit from count ⌝ }
+{
+    let mut at = from;
+    let mut left = count;
+    while 0 < left {
+        match entry_at(s, f, item, limit, at) {
+            EntryAnswer::Refused(r) => {
+                return Checked::Refused(r);
+            }
+            EntryAnswer::Got {
+                index: _,
+                offset: _,
+            } => {
+                at += 8;
+            }
+        }
+        left -= 1;
+    }
+    Checked::Accepted
+}
+
+// One of the three lists, its length first: where it ends.
+fn list_past(s: &[u8], f: Frame, item: usize, limit: u32, from: usize, count: u32) -> Step
+    ensures { λ r. ⌜ step-outcome r ≡ listPast (now (s .entry)) f item limit from count ⌝ }
+{
+    let size = 8 * count as usize;
+    if encoded_value::has_room(s.len(), from, size) {
+        match entries_pass(s, f, item, limit, from, count) {
+            Checked::Refused(r) => {
+                return Step::Refused(r);
+            }
+            Checked::Accepted => {
+                return Step::Next(from + size);
+            }
+        }
+    }
+    Step::Refused(Refusal {
+        number: 9,
+        place: item,
+    })
+}
+
+// Fields, methods and parameters in turn.
+fn lists_pass(s: &[u8], f: Frame, item: usize, h: Head) -> Checked
+    requires { ⌜ item + 16 ≤ length (now s) ⌝ }
+    ensures { λ r. ⌜ checked-outcome r ≡ listsPass (now (s .entry)) f item h ⌝ }
+{
+    match list_past(s, f, item, f.fields, item + 16, h.fields) {
+        Step::Refused(r) => Checked::Refused(r),
+        Step::Next(methods) => match list_past(s, f, item, f.methods, methods, h.methods) {
+            Step::Refused(r) => Checked::Refused(r),
+            Step::Next(parameters) => {
+                match list_past(s, f, item, f.methods, parameters, h.parameters) {
+                    Step::Refused(r) => Checked::Refused(r),
+                    Step::Next(_) => Checked::Accepted,
+                }
+            }
+        },
+    }
+}
+
+// The directory at a place, by its own rules: its head.
+pub fn directory(s: &[u8], f: Frame, item: usize) -> HeadAnswer
+    ensures { λ r. ⌜ head-outcome r ≡ directoryHead (now (s .entry)) f item ⌝ }
+{
+    match head_at(s, f, item) {
+        HeadAnswer::Refused(r) => HeadAnswer::Refused(r),
+        HeadAnswer::Got(h) => match lists_pass(s, f, item, h) {
+            Checked::Refused(r) => HeadAnswer::Refused(r),
+            Checked::Accepted => HeadAnswer::Got(h),
+        },
+    }
+}
+
+// How many entries a list has: fields 0, methods 1, parameters 2.
+fn count_of(h: Head, list: u32) -> u32
+    ensures { λ r. ⌜ r ≡ countOf h list ⌝ }
+{
+    if list == 0 {
+        return h.fields;
+    }
+    if list == 1 {
+        return h.methods;
+    }
+    if list == 2 {
+        return h.parameters;
+    }
+    0
+}
+
+// How many entries stand before a list's.
+fn before_of(h: Head, list: u32) -> usize
+    ensures { λ r. ⌜ r ≡ beforeOf h list ⌝ }
+{
+    if list == 0 {
+        return 0;
+    }
+    if list == 1 {
+        return h.fields as usize;
+    }
+    h.fields as usize + h.methods as usize
+}
+
+// The count that a list's indices are tested by.
+fn limit_of(f: Frame, list: u32) -> u32
+    ensures { λ r. ⌜ r ≡ limitOf f list ⌝ }
+{
+    if list == 0 {
+        return f.fields;
+    }
+    f.methods
+}
+
+// Entry k of a list: fields 0, methods 1, parameters 2.
+pub fn directory_entry(s: &[u8], f: Frame, item: usize, list: u32, k: u32) -> EntryAnswer
+    ensures { λ r. ⌜ entry-outcome r ≡ directoryEntry (now (s .entry)) f item list k ⌝ }
+{
+    match directory(s, f, item) {
+        HeadAnswer::Refused(r) => EntryAnswer::Refused(r),
+        HeadAnswer::Got(h) => {
+            if k < count_of(h, list) {
+                let before = before_of(h, list);
+                return entry_at(
+                    s,
+                    f,
+                    item,
+                    limit_of(f, list),
+                    item + 16 + 8 * (before + k as usize),
+                );
+            }
+            EntryAnswer::Refused(Refusal {
+                number: 7,
+                place: 0,
+            })
+        }
+    }
+}

@@ -1,0 +1,17 @@
+-- The annotation item as a rule: what stands where, with no walk.
+use Prim.Native.Nat.{ℕ, _+_, _<_, _≤_}
+use mathlib.Core.Path.{_≡_}
+use mathlib.Core.List.{List}
+use lib.ListN.{length, getD}
+use Rattle.frame.specs.declared.Frame.{Frame}
+use Rattle.encoded_value.specs.Kinds.{walkOf}
+use Rattle.encoded_value.specs.Rules.{AnnotationBody}
+use Rattle.annotation_items.specs.Items.{Item}
+
+pub record ItemRule (s : List ℕ) (f : Frame) (item : ℕ) (a : Item) : Type 0 where
+  pub place : item ≡ a .place
+  pub room : item < length s
+  pub visibility : getD s item 0 ≡ a .visibility
+  pub visible : a .visibility ≤ 2
+  pub ends : ℕ
+  pub body : AnnotationBody s (walkOf f item) 64 (item + 1) (a .annotation) ends

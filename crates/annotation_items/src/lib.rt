@@ -1,0 +1,91 @@
+// The annotation item: a visibility, then an annotation body at depth 1.
+// `s` is the file up to the data section's end, so that what runs past its length is 9; all faults of an item are at its own place.
+use encoded_value::Step;
+use frame::Frame;
+use refusal::Refusal;
+use value_bodies::Element;
+ghost use mathlib.Core.Path.{_≡_};
+ghost use Rattle.value_bodies.specs.Answers.{element-outcome};
+ghost use Rattle.annotation_items.specs.Items.{visibilityAt, itemVisibility, itemSummary, itemElement};
+ghost use Rattle.annotation_items.specs.Answers.{visibility-outcome, summary-outcome};
+
+pub enum Visibility {
+    Got(u8),
+    Refused(Refusal),
+}
+
+// An annotation's visibility, its type, and how many elements it has.
+pub enum SummaryAnswer {
+    Got {
+        visibility: u8,
+        type_index: u32,
+        count: u32,
+    },
+    Refused(Refusal),
+}
+
+// The visibility byte.
+fn visibility_at(s: &[u8], item: usize) -> Visibility
+    ensures { λ r. ⌜ visibility-outcome r ≡ visibilityAt (now (s .entry)) item ⌝ }
+{
+    if s.len() <= item {
+        return Visibility::Refused(Refusal {
+            number: 9,
+            place: item,
+        });
+    }
+    let visibility = s[item];
+    if visibility <= 2 {
+        return Visibility::Got(visibility);
+    }
+    Visibility::Refused(Refusal {
+        number: 18,
+        place: item,
+    })
+}
+
+// The annotation item at a place, gone over whole: its visibility.
+pub fn annotation_item(s: &[u8], f: Frame, item: usize) -> Visibility
+    ensures { λ r. ⌜ visibility-outcome r ≡ itemVisibility (now (s .entry)) f item ⌝ }
+{
+    match visibility_at(s, item) {
+        Visibility::Refused(r) => Visibility::Refused(r),
+        Visibility::Got(visibility) => {
+            match encoded_value::top_annotation(s, encoded_value::walk_of(f, item), item + 1) {
+                Step::Refused(r) => Visibility::Refused(r),
+                Step::Next(_) => Visibility::Got(visibility),
+            }
+        }
+    }
+}
+
+// The annotation item at a place: its visibility, its type, and how many elements it has.
+pub fn annotation(s: &[u8], f: Frame, item: usize) -> SummaryAnswer
+    ensures { λ r. ⌜ summary-outcome r ≡ itemSummary (now (s .entry)) f item ⌝ }
+{
+    match visibility_at(s, item) {
+        Visibility::Refused(r) => SummaryAnswer::Refused(r),
+        Visibility::Got(visibility) => {
+            match value_bodies::annotation_head(s, encoded_value::walk_of(f, item), item + 1) {
+                value_bodies::Head::Refused(r) => SummaryAnswer::Refused(r),
+                value_bodies::Head::Got { type_index, count } => SummaryAnswer::Got {
+                    visibility,
+                    type_index,
+                    count,
+                },
+            }
+        }
+    }
+}
+
+// Element k of the annotation item at a place: its name and its value.
+pub fn annotation_element(s: &[u8], f: Frame, item: usize, k: u32) -> Element
+    ensures { λ r. ⌜ element-outcome r ≡ itemElement (now (s .entry)) f item k ⌝ }
+{
+    match visibility_at(s, item) {
+        Visibility::Refused(r) => Element::Refused(r),
+        Visibility::Got(_) => {
+            value_bodies::annotation_element(s, encoded_value::walk_of(f, item), item + 1, k)
+        }
+    }
+}

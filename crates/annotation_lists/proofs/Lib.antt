@@ -1,0 +1,5 @@
+pub mod Fixed
+pub mod Exactly
+pub mod Laws
+pub mod Once
+pub mod Kth

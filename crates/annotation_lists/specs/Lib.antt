@@ -1,0 +1,4 @@
+pub mod Fixed
+pub mod Offsets
+pub mod Answers
+pub mod Rules
