@@ -26,9 +26,10 @@ pub fn row(s: &[u8], kind: u8, f: Frame, item: usize, k: u32) -> [u64; 20] {
     if kind == 33 {
         return answer_rows::annotation_row(annotation_items::annotation(s, f, item));
     }
-    if kind == 34 {
-        return answer_rows::element_row(annotation_items::annotation_element(s, f, item, k));
-    }
+    answer_rows::element_row(annotation_items::annotation_element(s, f, item, k))
+}
+
+pub fn list_row(s: &[u8], kind: u8, f: Frame, item: usize, k: u32) -> [u64; 20] {
     if kind == 35 {
         return answer_rows::word_row(annotation_lists::set_count(s, f, item));
     }
@@ -41,14 +42,15 @@ pub fn row(s: &[u8], kind: u8, f: Frame, item: usize, k: u32) -> [u64; 20] {
     answer_rows::word_row(annotation_lists::reference_offset(s, f, item, k))
 }
 
-// Entry k of a list of a directory, and the checks.
+// A directory, and entry k of one of its lists.
 pub fn directory_row(s: &[u8], kind: u8, f: Frame, item: usize, list: u32, k: u32) -> [u64; 20] {
     if kind == 39 {
         return answer_rows::directory_row(directory(annotation_directories::directory(s, f, item)));
     }
-    if kind == 40 {
-        return answer_rows::place_row(annotation_directories::directory_entry(s, f, item, list, k));
-    }
+    answer_rows::place_row(annotation_directories::directory_entry(s, f, item, list, k))
+}
+
+pub fn check_row(s: &[u8], kind: u8, f: Frame, item: usize) -> [u64; 20] {
     if kind == 41 {
         return answer_rows::checked_row(annotation_walk::check_set(s, f, item));
     }

@@ -62,17 +62,30 @@ fn frame_of(s: &[u8]) -> Frame {
     }
 }
 
+fn note_row(s: &[u8], kind: u8, f: Frame, item: usize, b: u32, c: u32) -> [u64; 20] {
+    if kind < 35 {
+        return notes::row(s, kind, f, item, b);
+    }
+    if kind < 39 {
+        return notes::list_row(s, kind, f, item, b);
+    }
+    if kind < 41 {
+        return notes::directory_row(s, kind, f, item, b, c);
+    }
+    notes::check_row(s, kind, f, item)
+}
+
 fn item_row(s: &[u8], kind: u8, f: Frame, item: usize, b: u32, c: u32) -> [u64; 20] {
     if kind < 20 {
         return members::row(s, kind, f, item, b, c);
     }
+    if kind < 22 {
+        return members::code_row(s, kind, f, item, b);
+    }
     if kind < 32 {
-        return members::code_row(s, kind, f, item, b, c);
+        return members::handler_row(s, kind, f, item, b, c);
     }
-    if kind < 39 {
-        return notes::row(s, kind, f, item, b);
-    }
-    notes::directory_row(s, kind, f, item, b, c)
+    note_row(s, kind, f, item, b, c)
 }
 
 fn row_of(s: &[u8], kind: u8, f: Frame, n: Numbers) -> [u64; 20] {
