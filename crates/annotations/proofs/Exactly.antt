@@ -13,7 +13,7 @@ use Rattle.word.specs.Words.{u32At}
 use Rattle.frame.specs.declared.Frame.{Frame}
 use Rattle.frame.specs.Offsets.{Allowed, AllowedOrAbsent}
 use Rattle.frame.proofs.Laws.{allowed-decides, or-absent-decides}
-use Rattle.encoded_value.specs.Kinds.{walkOf}
+use Rattle.value_heads.specs.Kinds.{walkOf}
 use Rattle.encoded_value.proofs.Exactly.{annotation-exact}
 use Rattle.annotations.specs.declared.Head.{Head}
 use Rattle.annotations.specs.Fixed.{Fixed}

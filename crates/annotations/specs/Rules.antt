@@ -7,7 +7,7 @@ use lib.ListN.{length, getD}
 use Rattle.word.specs.Words.{u32At}
 use Rattle.frame.specs.declared.Frame.{Frame}
 use Rattle.frame.specs.Offsets.{Allowed, AllowedOrAbsent}
-use Rattle.encoded_value.specs.Kinds.{walkOf}
+use Rattle.value_heads.specs.Kinds.{walkOf}
 use Rattle.encoded_value.specs.Rules.{AnnotationBody}
 use Rattle.annotations.specs.declared.Head.{Head}
 use Rattle.annotations.specs.Fixed.{Fixed}

@@ -48,8 +48,8 @@ use Rattle.code_item.specs.Answers.{code-outcome}
 use Rattle.code_item.specs.Code.{Code, codeAt, outline, outlineAt}
 use Rattle.debug_info.specs.Debug.{Debug, debugAt, Extent, extentAt}
 use Rattle.debug_info.proofs.Laws.{on-debug}
-use Rattle.encoded_value.specs.declared.Walk.{Walk}
-use Rattle.encoded_value.specs.Kinds.{walkOf}
+use Rattle.value_heads.specs.declared.Walk.{Walk}
+use Rattle.value_heads.specs.Kinds.{walkOf}
 use Rattle.encoded_value.specs.Tree.{Tree}
 use Rattle.encoded_value.specs.Readings.{arrayAt, pastArray}
 use Rattle.encoded_value.proofs.Leaves.{on-step}

@@ -7,8 +7,8 @@ use Rattle.refusal.specs.Outcome.{Outcome, answer, refused, _>>=_, given}
 use Rattle.frame.specs.Offsets.{allowed}
 use Rattle.header.specs.declared.Header.{Header}
 use Rattle.header.specs.Header.{section, frame-of}
-use Rattle.encoded_value.specs.declared.Walk.{Walk}
-use Rattle.encoded_value.specs.Kinds.{walkOf}
+use Rattle.value_heads.specs.declared.Walk.{Walk}
+use Rattle.value_heads.specs.Kinds.{walkOf}
 use Rattle.encoded_value.specs.Readings.{pastArray, pastAnnotation}
 use Rattle.decoded_value.specs.Shown.{Shown}
 use Rattle.value_bodies.specs.Bodies.{ShownElement, arrayCount, arrayValue, annotationNoted, annotationElement}

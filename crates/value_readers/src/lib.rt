@@ -1,7 +1,6 @@
 // Values by place and by class: header, map, 7 for a place outside the data section or a number, the item whole, 7 for the inner number.
 use class_ids::ClassAnswer;
 use encoded_value::Step;
-use encoded_value::Walk;
 use header::Header;
 use refusal::Refusal;
 use table_readers::OpenedAnswer;
@@ -9,6 +8,7 @@ use value_bodies::Count;
 use value_bodies::Element;
 use value_bodies::Head;
 use value_bodies::Picked;
+use value_heads::Walk;
 ghost use mathlib.Core.Path.{_≡_};
 ghost use Rattle.value_bodies.specs.Answers.{count-outcome, picked-outcome, element-outcome};
 ghost use Rattle.value_readers.specs.Values.{walk-in, arrayBody, notedBody, arrayUnder, arrayOf, arrayValueUnder, arrayValueOf, bodyUnder, bodyOf, elementUnder, elementOf};
@@ -35,7 +35,7 @@ pub enum BodyAnswer {
 fn walk_in(h: Header, handles: u32, item: usize) -> Walk
     ensures { λ r. ⌜ r ≡ walk-in h handles item ⌝ }
 {
-    encoded_value::walk_of(header::frame_of(h, handles), item)
+    value_heads::walk_of(header::frame_of(h, handles), item)
 }
 
 // An array's size, and its length in bytes.

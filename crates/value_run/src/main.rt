@@ -2,13 +2,13 @@
 use decoded_value::Decoded;
 use decoded_value::Value;
 use encoded_value::Step;
-use encoded_value::Walk;
 use frame::Frame;
 use refusal::Refusal;
 use value_bodies::Count;
 use value_bodies::Element;
 use value_bodies::Head;
 use value_bodies::Picked;
+use value_heads::Walk;
 use word::Endian;
 
 fn number(n: u64) {
@@ -128,7 +128,7 @@ fn walk() -> Walk {
         methods: 0x105,
         handles: 0x106,
     };
-    encoded_value::walk_of(f, 7)
+    value_heads::walk_of(f, 7)
 }
 
 // A value inside a top body: read out, and gone over.

@@ -4,7 +4,7 @@ use Rattle.annotations.proofs.directories.list_past.Tie as tie
 use Rattle.annotations.proofs.directories.list_past.Reads as reads
 use Rattle.annotations.proofs.directories.list_past.Lts as lts
 use Rattle.annotations.proofs.directories.entries_pass.Reads as entries-pass-reads
-use Rattle.encoded_value.proofs.has_room.Reads as has-room-reads
+use Rattle.value_heads.proofs.has_room.Reads as has-room-reads
 
 -- src/directories.rt:110:16
 mul-size : tie.Need-mul-size

@@ -4,7 +4,7 @@ use Rattle.annotations.proofs.items.annotation.Tie as tie
 use Rattle.annotations.proofs.items.annotation.Reads as reads
 use Rattle.annotations.proofs.items.annotation.Lts as lts
 use Rattle.annotations.proofs.items.visibility_at.Reads as visibility-at-reads
-use Rattle.encoded_value.proofs.walk_of.Reads as walk-of-reads
+use Rattle.value_heads.proofs.walk_of.Reads as walk-of-reads
 use Rattle.value_bodies.proofs.annotation_head.Reads as annotation-head-reads
 
 -- src/items.rt:52:11

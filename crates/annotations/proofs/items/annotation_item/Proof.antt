@@ -5,7 +5,7 @@ use Rattle.annotations.proofs.items.annotation_item.Reads as reads
 use Rattle.annotations.proofs.items.annotation_item.Lts as lts
 use Rattle.annotations.proofs.items.visibility_at.Reads as visibility-at-reads
 use Rattle.encoded_value.proofs.top_annotation.Reads as top-annotation-reads
-use Rattle.encoded_value.proofs.walk_of.Reads as walk-of-reads
+use Rattle.value_heads.proofs.walk_of.Reads as walk-of-reads
 
 -- src/items.rt:37:11
 visibility-at-requires : tie.Need-visibility-at-requires

@@ -5,7 +5,7 @@ use Rattle.annotations.proofs.lists.offset_count.Reads as reads
 use Rattle.annotations.proofs.lists.offset_count.Lts as lts
 use Rattle.annotations.proofs.lists.offsets_pass.Reads as offsets-pass-reads
 use Rattle.annotations.proofs.lists.word_at.Reads as word-at-reads
-use Rattle.encoded_value.proofs.has_room.Reads as has-room-reads
+use Rattle.value_heads.proofs.has_room.Reads as has-room-reads
 
 -- src/lists.rt:85:11
 word-at-requires : tie.Need-word-at-requires

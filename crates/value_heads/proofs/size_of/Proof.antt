@@ -1,8 +1,8 @@
-use Rattle.encoded_value.proofs.Leaves.{kind-laws as laws}
-use Rattle.encoded_value.proofs.size_of.Statement.{statement}
-use Rattle.encoded_value.proofs.size_of.Tie as tie
-use Rattle.encoded_value.proofs.size_of.Reads as reads
-use Rattle.encoded_value.proofs.size_of.Lts as lts
+use Rattle.value_heads.proofs.Laws.{kind-laws as laws}
+use Rattle.value_heads.proofs.size_of.Statement.{statement}
+use Rattle.value_heads.proofs.size_of.Tie as tie
+use Rattle.value_heads.proofs.size_of.Reads as reads
+use Rattle.value_heads.proofs.size_of.Lts as lts
 
 -- src/lib.rt:75:17
 add-result : tie.Need-add-result

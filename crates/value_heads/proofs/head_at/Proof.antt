@@ -1,10 +1,10 @@
-use Rattle.encoded_value.proofs.Leaves.{head-laws as laws}
-use Rattle.encoded_value.specs.Readings.{headAt}
-use Rattle.encoded_value.proofs.head_at.Statement.{statement}
-use Rattle.encoded_value.proofs.head_at.Tie as tie
-use Rattle.encoded_value.proofs.head_at.Reads as reads
-use Rattle.encoded_value.proofs.head_at.Lts as lts
-use Rattle.encoded_value.proofs.is_allowed_head.Reads as is-allowed-head-reads
+use Rattle.value_heads.proofs.Laws.{head-laws as laws}
+use Rattle.value_heads.specs.Readings.{headAt}
+use Rattle.value_heads.proofs.head_at.Statement.{statement}
+use Rattle.value_heads.proofs.head_at.Tie as tie
+use Rattle.value_heads.proofs.head_at.Reads as reads
+use Rattle.value_heads.proofs.head_at.Lts as lts
+use Rattle.value_heads.proofs.is_allowed_head.Reads as is-allowed-head-reads
 
 -- src/lib.rt:126:9
 returns : tie.Need-returns

@@ -1,9 +1,9 @@
-use Rattle.encoded_value.proofs.Leaves.{plain-laws as laws}
-use Rattle.encoded_value.specs.Readings.{indexAt}
-use Rattle.encoded_value.proofs.index_at.Statement.{statement}
-use Rattle.encoded_value.proofs.index_at.Tie as tie
-use Rattle.encoded_value.proofs.index_at.Reads as reads
-use Rattle.encoded_value.proofs.index_at.Lts as lts
+use Rattle.value_heads.proofs.Laws.{checked-laws as laws}
+use Rattle.value_heads.specs.Readings.{indexAt}
+use Rattle.value_heads.proofs.index_at.Statement.{statement}
+use Rattle.value_heads.proofs.index_at.Tie as tie
+use Rattle.value_heads.proofs.index_at.Reads as reads
+use Rattle.value_heads.proofs.index_at.Lts as lts
 use Rattle.leb128.proofs.uleb.Reads as uleb-reads
 
 -- src/lib.rt:235:11

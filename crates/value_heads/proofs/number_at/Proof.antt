@@ -1,11 +1,11 @@
-use Rattle.encoded_value.proofs.Leaves.{number-laws as laws}
-use Rattle.encoded_value.proofs.number_at.Statement.{statement}
-use Rattle.encoded_value.proofs.number_at.Tie as tie
-use Rattle.encoded_value.proofs.number_at.Reads as reads
-use Rattle.encoded_value.proofs.number_at.Lts as lts
-use Rattle.encoded_value.proofs.has_room.Reads as has-room-reads
-use Rattle.encoded_value.proofs.joined.Reads as joined-reads
-use Rattle.encoded_value.proofs.size_of.Reads as size-of-reads
+use Rattle.value_heads.proofs.Laws.{number-laws as laws}
+use Rattle.value_heads.proofs.number_at.Statement.{statement}
+use Rattle.value_heads.proofs.number_at.Tie as tie
+use Rattle.value_heads.proofs.number_at.Reads as reads
+use Rattle.value_heads.proofs.number_at.Lts as lts
+use Rattle.value_heads.proofs.has_room.Reads as has-room-reads
+use Rattle.value_heads.proofs.joined.Reads as joined-reads
+use Rattle.value_heads.proofs.size_of.Reads as size-of-reads
 
 -- src/lib.rt:159:9
 size-of-requires : tie.Need-size-of-requires

@@ -1,9 +1,9 @@
-use Rattle.encoded_value.proofs.Leaves.{limit-laws as laws}
-use Rattle.encoded_value.specs.Kinds.{count-of}
-use Rattle.encoded_value.proofs.limit_of.Statement.{statement}
-use Rattle.encoded_value.proofs.limit_of.Tie as tie
-use Rattle.encoded_value.proofs.limit_of.Reads as reads
-use Rattle.encoded_value.proofs.limit_of.Lts as lts
+use Rattle.value_heads.proofs.Laws.{limit-laws as laws}
+use Rattle.value_heads.specs.Kinds.{count-of}
+use Rattle.value_heads.proofs.limit_of.Statement.{statement}
+use Rattle.value_heads.proofs.limit_of.Tie as tie
+use Rattle.value_heads.proofs.limit_of.Reads as reads
+use Rattle.value_heads.proofs.limit_of.Lts as lts
 
 -- src/lib.rt:94:9
 returns : tie.Need-returns

@@ -5,7 +5,7 @@ use mathlib.Core.List.{List, [], _∷_}
 use lib.ListN.{getD}
 use lib.Dec.{ltb, leb, eqb}
 use Rattle.frame.specs.declared.Frame.{Frame}
-use Rattle.encoded_value.specs.declared.Walk.{Walk}
+use Rattle.value_heads.specs.declared.Walk.{Walk}
 
 -- how many arguments a code allows, from 0 on; none where the code is not allowed
 unfoldable pub arguments : List ℕ

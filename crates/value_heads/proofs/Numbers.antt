@@ -13,8 +13,8 @@ use borrow.Author.Tests.{le-leb, lt-leb, leb-true, leb-false, lt-ltb, le-ltb}
 use mir.Syntax.{w8, w64}
 use mir.Val.{Fits}
 use Rattle.word.specs.Bytes.{stretch}
-use Rattle.encoded_value.specs.Kinds.{bytes-of}
-use Rattle.encoded_value.specs.Numbers.{little}
+use Rattle.value_heads.specs.Kinds.{bytes-of}
+use Rattle.value_heads.specs.Numbers.{little}
 
 -- ---- how many bytes
 pub size-some : (h : ℕ) → h % 32 < 0x1c → h / 32 + 1 ≡ bytes-of h

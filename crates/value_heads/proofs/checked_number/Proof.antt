@@ -1,11 +1,11 @@
-use Rattle.encoded_value.proofs.Leaves.{plain-laws as laws}
-use Rattle.encoded_value.specs.Readings.{checkedAt}
-use Rattle.encoded_value.proofs.checked_number.Statement.{statement}
-use Rattle.encoded_value.proofs.checked_number.Tie as tie
-use Rattle.encoded_value.proofs.checked_number.Reads as reads
-use Rattle.encoded_value.proofs.checked_number.Lts as lts
-use Rattle.encoded_value.proofs.is_in_range.Reads as is-in-range-reads
-use Rattle.encoded_value.proofs.number_at.Reads as number-at-reads
+use Rattle.value_heads.proofs.Laws.{checked-laws as laws}
+use Rattle.value_heads.specs.Readings.{checkedAt}
+use Rattle.value_heads.proofs.checked_number.Statement.{statement}
+use Rattle.value_heads.proofs.checked_number.Tie as tie
+use Rattle.value_heads.proofs.checked_number.Reads as reads
+use Rattle.value_heads.proofs.checked_number.Lts as lts
+use Rattle.value_heads.proofs.is_in_range.Reads as is-in-range-reads
+use Rattle.value_heads.proofs.number_at.Reads as number-at-reads
 
 -- src/lib.rt:186:11
 number-at-requires : tie.Need-number-at-requires

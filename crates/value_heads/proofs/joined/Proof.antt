@@ -1,8 +1,8 @@
-use Rattle.encoded_value.proofs.Numbers.{Joining, joining-laws as laws}
-use Rattle.encoded_value.proofs.joined.Statement.{statement}
-use Rattle.encoded_value.proofs.joined.Tie as tie
-use Rattle.encoded_value.proofs.joined.Reads as reads
-use Rattle.encoded_value.proofs.joined.Lts as lts
+use Rattle.value_heads.proofs.Numbers.{Joining, joining-laws as laws}
+use Rattle.value_heads.proofs.joined.Statement.{statement}
+use Rattle.value_heads.proofs.joined.Tie as tie
+use Rattle.value_heads.proofs.joined.Reads as reads
+use Rattle.value_heads.proofs.joined.Lts as lts
 
 abbrev Inv-loop : tie.InvT-loop
 Inv-loop s at n sum₀ left₀ sum left = Joining s at n left sum

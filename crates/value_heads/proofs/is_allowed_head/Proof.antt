@@ -1,9 +1,9 @@
-use Rattle.encoded_value.proofs.Leaves.{kind-laws as laws}
-use Rattle.encoded_value.specs.Kinds.{allowed-head, arguments}
-use Rattle.encoded_value.proofs.is_allowed_head.Statement.{statement}
-use Rattle.encoded_value.proofs.is_allowed_head.Tie as tie
-use Rattle.encoded_value.proofs.is_allowed_head.Reads as reads
-use Rattle.encoded_value.proofs.is_allowed_head.Lts as lts
+use Rattle.value_heads.proofs.Laws.{kind-laws as laws}
+use Rattle.value_heads.specs.Kinds.{allowed-head, arguments}
+use Rattle.value_heads.proofs.is_allowed_head.Statement.{statement}
+use Rattle.value_heads.proofs.is_allowed_head.Tie as tie
+use Rattle.value_heads.proofs.is_allowed_head.Reads as reads
+use Rattle.value_heads.proofs.is_allowed_head.Lts as lts
 
 -- src/lib.rt:67:27
 cast-result : tie.Need-cast-result

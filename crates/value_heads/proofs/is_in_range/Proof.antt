@@ -1,10 +1,10 @@
-use Rattle.encoded_value.proofs.Leaves.{kind-laws as laws}
-use Rattle.encoded_value.proofs.is_in_range.Statement.{statement}
-use Rattle.encoded_value.proofs.is_in_range.Tie as tie
-use Rattle.encoded_value.proofs.is_in_range.Reads as reads
-use Rattle.encoded_value.proofs.is_in_range.Lts as lts
-use Rattle.encoded_value.proofs.is_index_code.Reads as is-index-code-reads
-use Rattle.encoded_value.proofs.limit_of.Reads as limit-of-reads
+use Rattle.value_heads.proofs.Laws.{kind-laws as laws}
+use Rattle.value_heads.proofs.is_in_range.Statement.{statement}
+use Rattle.value_heads.proofs.is_in_range.Tie as tie
+use Rattle.value_heads.proofs.is_in_range.Reads as reads
+use Rattle.value_heads.proofs.is_in_range.Lts as lts
+use Rattle.value_heads.proofs.is_index_code.Reads as is-index-code-reads
+use Rattle.value_heads.proofs.limit_of.Reads as limit-of-reads
 
 -- src/lib.rt:176:8
 is-index-code-requires : tie.Need-is-index-code-requires
