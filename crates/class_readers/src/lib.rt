@@ -3,9 +3,9 @@
 // A list is 0 for static fields, 1 for instance fields, 2 for direct methods, 3 for virtual methods.
 use class_data::Counts;
 use class_data::Member;
+use code_bodies::Try;
 use code_item::Catch;
 use code_item::Outline;
-use code_item::Try;
 use debug_info::Name;
 use handlers::Pair;
 use header::Header;

@@ -45,7 +45,8 @@ use Rattle.class_data.proofs.Laws.{on-methods}
 use Rattle.code_item.specs.declared.Outline.{Outline}
 use Rattle.code_item.specs.declared.CodeAnswer.{CodeAnswer}
 use Rattle.code_item.specs.Answers.{code-outcome}
-use Rattle.code_item.specs.Code.{Code, codeAt, outline, outlineAt}
+use Rattle.code_bodies.specs.Code.{Code, codeAt}
+use Rattle.code_item.specs.Code.{outline, outlineAt}
 use Rattle.debug_info.specs.Debug.{Debug, debugAt, Extent, extentAt}
 use Rattle.debug_info.proofs.Laws.{on-debug}
 use Rattle.value_heads.specs.declared.Walk.{Walk}
