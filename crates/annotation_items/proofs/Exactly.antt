@@ -7,7 +7,7 @@ use lib.ListN.{length, getD}
 use Rattle.refusal.specs.Exact.{Exact}
 use Rattle.refusal.proofs.Exact.{same, answer-exact, given-exact, bind-exact, exact-iff, below, at-most}
 use Rattle.frame.specs.declared.Frame.{Frame}
-use Rattle.encoded_value.specs.Kinds.{walkOf}
+use Rattle.value_heads.specs.Kinds.{walkOf}
 use Rattle.encoded_value.proofs.Exactly.{annotation-exact}
 use Rattle.annotation_items.specs.Items.{Item, visibilityAt, itemAt}
 use Rattle.annotation_items.specs.Rules.{ItemRule}

@@ -12,9 +12,9 @@ use Rattle.refusal.specs.Outcome.{Outcome, answer, refused, _>>=_}
 use Rattle.refusal.specs.Rows.{Found, past}
 use Rattle.refusal.proofs.Laws.{said, calls, tests}
 use Rattle.frame.specs.declared.Frame.{Frame}
-use Rattle.encoded_value.specs.declared.Walk.{Walk}
+use Rattle.value_heads.specs.declared.Walk.{Walk}
 use Rattle.encoded_value.specs.declared.Step.{Step}
-use Rattle.encoded_value.specs.Kinds.{walkOf}
+use Rattle.value_heads.specs.Kinds.{walkOf}
 use Rattle.encoded_value.specs.Tree.{Named, Annotation}
 use Rattle.encoded_value.specs.Readings.{annotationAt, pastAnnotation}
 use Rattle.encoded_value.specs.Answers.{step-outcome}

@@ -5,7 +5,7 @@ use lib.ListN.{length, getD}
 use lib.Dec.{ltb, leb}
 use Rattle.refusal.specs.Outcome.{Outcome, answer, _>>=_, given}
 use Rattle.frame.specs.declared.Frame.{Frame}
-use Rattle.encoded_value.specs.Kinds.{walkOf}
+use Rattle.value_heads.specs.Kinds.{walkOf}
 use Rattle.encoded_value.specs.Tree.{Annotation}
 use Rattle.encoded_value.specs.Readings.{annotationAt}
 use Rattle.decoded_value.specs.Shown.{shown}

@@ -4,7 +4,7 @@ use mathlib.Core.Path.{_≡_}
 use mathlib.Core.List.{List}
 use lib.ListN.{length, getD}
 use Rattle.frame.specs.declared.Frame.{Frame}
-use Rattle.encoded_value.specs.Kinds.{walkOf}
+use Rattle.value_heads.specs.Kinds.{walkOf}
 use Rattle.encoded_value.specs.Rules.{AnnotationBody}
 use Rattle.annotation_items.specs.Items.{Item}
 

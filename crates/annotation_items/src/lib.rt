@@ -51,7 +51,7 @@ pub fn annotation_item(s: &[u8], f: Frame, item: usize) -> Visibility
     match visibility_at(s, item) {
         Visibility::Refused(r) => Visibility::Refused(r),
         Visibility::Got(visibility) => {
-            match encoded_value::top_annotation(s, encoded_value::walk_of(f, item), item + 1) {
+            match encoded_value::top_annotation(s, value_heads::walk_of(f, item), item + 1) {
                 Step::Refused(r) => Visibility::Refused(r),
                 Step::Next(_) => Visibility::Got(visibility),
             }
@@ -66,7 +66,7 @@ pub fn annotation(s: &[u8], f: Frame, item: usize) -> SummaryAnswer
     match visibility_at(s, item) {
         Visibility::Refused(r) => SummaryAnswer::Refused(r),
         Visibility::Got(visibility) => {
-            match value_bodies::annotation_head(s, encoded_value::walk_of(f, item), item + 1) {
+            match value_bodies::annotation_head(s, value_heads::walk_of(f, item), item + 1) {
                 value_bodies::Head::Refused(r) => SummaryAnswer::Refused(r),
                 value_bodies::Head::Got { type_index, count } => SummaryAnswer::Got {
                     visibility,
@@ -85,7 +85,7 @@ pub fn annotation_element(s: &[u8], f: Frame, item: usize, k: u32) -> Element
     match visibility_at(s, item) {
         Visibility::Refused(r) => Element::Refused(r),
         Visibility::Got(_) => {
-            value_bodies::annotation_element(s, encoded_value::walk_of(f, item), item + 1, k)
+            value_bodies::annotation_element(s, value_heads::walk_of(f, item), item + 1, k)
         }
     }
 }

@@ -13,10 +13,10 @@ use Rattle.type_list.proofs.Exactly.{list-exact}
 use Rattle.class_ids.proofs.Exactly.{class-exact}
 use Rattle.class_data.specs.declared.Member.{Member}
 use Rattle.class_data.proofs.Exactly.{data-exact}
-use Rattle.code_item.proofs.Exactly.{code-exact}
+use Rattle.code_bodies.proofs.Exactly.{code-exact}
 use Rattle.debug_info.proofs.Exactly.{debug-exact}
-use Rattle.encoded_value.specs.declared.Walk.{Walk}
-use Rattle.encoded_value.specs.Kinds.{walkOf}
+use Rattle.value_heads.specs.declared.Walk.{Walk}
+use Rattle.value_heads.specs.Kinds.{walkOf}
 use Rattle.encoded_value.proofs.Exactly.{array-exact}
 use Rattle.annotation_walk.proofs.Exactly.{directory-below-exact}
 use Rattle.table_readers.specs.Lists.{list-judge}

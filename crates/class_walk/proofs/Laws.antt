@@ -45,11 +45,12 @@ use Rattle.class_data.proofs.Laws.{on-methods}
 use Rattle.code_item.specs.declared.Outline.{Outline}
 use Rattle.code_item.specs.declared.CodeAnswer.{CodeAnswer}
 use Rattle.code_item.specs.Answers.{code-outcome}
-use Rattle.code_item.specs.Code.{Code, codeAt, outline, outlineAt}
+use Rattle.code_bodies.specs.Code.{Code, codeAt}
+use Rattle.code_item.specs.Code.{outline, outlineAt}
 use Rattle.debug_info.specs.Debug.{Debug, debugAt, Extent, extentAt}
 use Rattle.debug_info.proofs.Laws.{on-debug}
-use Rattle.encoded_value.specs.declared.Walk.{Walk}
-use Rattle.encoded_value.specs.Kinds.{walkOf}
+use Rattle.value_heads.specs.declared.Walk.{Walk}
+use Rattle.value_heads.specs.Kinds.{walkOf}
 use Rattle.encoded_value.specs.Tree.{Tree}
 use Rattle.encoded_value.specs.Readings.{arrayAt, pastArray}
 use Rattle.encoded_value.proofs.Leaves.{on-step}

@@ -8,8 +8,8 @@ use Rattle.header.specs.Header.{section, frame-of}
 use Rattle.type_list.specs.TypeList.{listAt}
 use Rattle.class_ids.specs.declared.Class.{Class}
 use Rattle.class_ids.specs.Classes.{classAt}
-use Rattle.encoded_value.specs.declared.Walk.{Walk}
-use Rattle.encoded_value.specs.Kinds.{walkOf}
+use Rattle.value_heads.specs.declared.Walk.{Walk}
+use Rattle.value_heads.specs.Kinds.{walkOf}
 use Rattle.encoded_value.specs.Tree.{Tree}
 use Rattle.encoded_value.specs.Readings.{arrayAt}
 use Rattle.annotation_walk.specs.Below.{Annotated, directoryBelow}

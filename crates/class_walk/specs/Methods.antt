@@ -9,7 +9,7 @@ use Rattle.class_data.specs.declared.Member.{Member}
 use Rattle.class_data.specs.declared.Methods.{Methods}
 use Rattle.class_data.specs.Members.{stepAt, begin}
 use Rattle.class_data.specs.Data.{ClassData, classDataAt, methods-judge}
-use Rattle.code_item.specs.Code.{Code, codeAt}
+use Rattle.code_bodies.specs.Code.{Code, codeAt}
 use Rattle.debug_info.specs.Debug.{Debug, debugAt}
 
 -- a code item, and its debug information

@@ -10,10 +10,10 @@ use Rattle.type_list.specs.Rules.{ListRule}
 use Rattle.class_ids.specs.Rules.{ClassRule}
 use Rattle.class_data.specs.declared.Member.{Member}
 use Rattle.class_data.specs.Rules.{DataRule}
-use Rattle.code_item.specs.Rules.{CodeRule}
+use Rattle.code_bodies.specs.Rules.{CodeRule}
 use Rattle.debug_info.specs.Rules.{DebugRule}
-use Rattle.encoded_value.specs.declared.Walk.{Walk}
-use Rattle.encoded_value.specs.Kinds.{walkOf}
+use Rattle.value_heads.specs.declared.Walk.{Walk}
+use Rattle.value_heads.specs.Kinds.{walkOf}
 use Rattle.encoded_value.specs.Tree.{Tree}
 use Rattle.encoded_value.specs.Rules.{ArrayBody}
 use Rattle.annotation_walk.specs.Rules.{DirectoryBelow}

@@ -171,7 +171,7 @@ fn values_below(f: &[u8], h: Header, handles: u32, at: u32) -> Checked
         return Checked::Accepted;
     }
     let place = at as usize;
-    let walk = encoded_value::walk_of(header::frame_of(h, handles), place);
+    let walk = value_heads::walk_of(header::frame_of(h, handles), place);
     match encoded_value::top_array(header::section_of(f, h), walk, place) {
         Step::Refused(r) => Checked::Refused(r),
         Step::Next(_) => Checked::Accepted,

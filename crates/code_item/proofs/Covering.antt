@@ -2,38 +2,39 @@
 -- Assumes nothing.
 use Prim.Native.Nat.{ℕ, zero, suc, _+_, _-_, _*_, _<_, _≤_}
 use mathlib.Core.Path.{_≡_, refl, ap, sym, _∙_}
-use mathlib.Core.Bool.{Bool, true, false, cond}
+use mathlib.Core.Bool.{Bool, true, false, cond, _&&_}
 use mathlib.Core.Option.{Option, none, some}
 use mathlib.Core.List.{List, _∷_}
 use lib.ListN.{length}
-use lib.Dec.{ltb}
+use lib.Dec.{ltb, leb}
 use borrow.Author.Needs.{needs}
 use borrow.Author.Tests.{le-leb, lt-leb}
 use native.Mathlib.Omega.{arith}
 use Rattle.refusal.specs.declared.Refusal.{Refusal}
 use Rattle.refusal.specs.Outcome.{Outcome, answer, refused, _>>=_}
 use Rattle.refusal.specs.Seek.{position, later}
-use Rattle.refusal.specs.Exact.{Row, empty, first, At, Sought}
+use Rattle.refusal.specs.Exact.{Decides, Row, empty, first, At, here, there, Sought}
 use Rattle.refusal.proofs.Laws.{bind-answer}
-use Rattle.refusal.proofs.Exact.{never, answer-exact, bind-exact}
+use Rattle.refusal.proofs.Exact.{never, answer-exact, bind-exact, below, at-most, both}
 use Rattle.refusal.proofs.Seek.{position-sought}
+use Rattle.word.specs.Words.{u16At, u32At}
 use Rattle.word.specs.declared.Endian.{Endian}
 use Rattle.frame.specs.declared.Frame.{Frame}
 use Rattle.handlers.specs.declared.Brief.{Brief}
-use Rattle.code_item.specs.declared.Head.{Head}
-use Rattle.code_item.specs.declared.Try.{Try}
+use Rattle.code_heads.specs.declared.Head.{Head}
+use Rattle.code_bodies.specs.declared.Try.{Try}
+use Rattle.code_bodies.specs.declared.KeptAnswer.{KeptAnswer}
+use Rattle.code_bodies.specs.declared.KeptAnswer.the-variants as K
+use Rattle.code_bodies.specs.Tries.{tryAt, Run}
+use Rattle.code_bodies.specs.Code.{Code, codeAt, Kept, kept, keptAt}
+use Rattle.code_bodies.specs.Rules.{TryRule, CodeRule}
+use Rattle.code_bodies.specs.Answers.{kept-outcome}
+use Rattle.code_bodies.proofs.Exactly.{code-exact, code-lies}
+use Rattle.code_bodies.proofs.Stages.{from-number}
 use Rattle.code_item.specs.declared.Cover.{Cover}
-use Rattle.code_item.specs.declared.KeptAnswer.{KeptAnswer}
-use Rattle.code_item.specs.declared.KeptAnswer.the-variants as K
-use Rattle.code_item.specs.Tries.{tryAt, Run, covers, triesFrom, coverAt}
-use Rattle.code_item.specs.Code.{Code, codeAt, coveringOf, Kept, kept, keptAt}
-use Rattle.code_item.specs.Rules.{TryRule, CodeRule}
-use Rattle.code_item.specs.Answers.{kept-outcome, cover-meant}
-use Rattle.code_item.proofs.Exactly.{code-exact, code-lies, Covers, covers-decides, covered-once}
-
-abbrev from-number : ℕ → Option ℕ → Option ℕ
-from-number n none = none
-from-number n (some k) = some (n + k)
+use Rattle.code_item.specs.Covering.{covers, triesFrom, coverAt}
+use Rattle.code_item.specs.Code.{coveringOf}
+use Rattle.code_item.specs.Answers.{cover-meant}
 
 -- ---- the loop of `cover_at` at its head: the first i tries do not cover the address
 pub record Looking (o : Endian) (s : List ℕ) (from count address left place i : ℕ) : Type 0 where
@@ -53,10 +54,14 @@ module _ {o : Endian} {s : List ℕ} {from count address left place i : ℕ} (h 
   pub looking-room : 0 < left → place + 8 ≤ length s
   looking-room l = let z = h .room in omega arith
 
-  module _ {t : Try} {b : Bool} (l : 0 < left) (read : t ≡ tryAt o s place) (asked : b ≡ covers address t) where
+  module _ {start units : ℕ} {b : Bool} (l : 0 < left) (first-unit : start ≡ u32At o s place) (count-read : units ≡ u16At o s (place + 4)) (asked : b ≡ leb start address && ltb address (start + units)) where
+    covered : b ≡ covers address (tryAt o s place)
+    unfolding covers
+    covered = asked ∙ λ k. leb (first-unit k) address && ltb address (first-unit k + count-read k)
+
     opened : position (covers address) (triesFrom o s place left) ≡ cond b (some 0) (later (position (covers address) (triesFrom o s (place + 8) (left - 1))))
     unfolding triesFrom position
-    opened = go left l ∙ λ k. cond (sym (asked ∙ ap (covers address) read) k) (some 0) (later (position (covers address) (triesFrom o s (place + 8) (left - 1))))
+    opened = go left l ∙ λ k. cond (sym covered k) (some 0) (later (position (covers address) (triesFrom o s (place + 8) (left - 1))))
       where
         go : (n : ℕ) → 0 < n → position (covers address) (triesFrom o s place n) ≡ cond (covers address (tryAt o s place)) (some 0) (later (position (covers address) (triesFrom o s (place + 8) (n - 1))))
         go zero q = absurd (omega arith)
@@ -86,14 +91,12 @@ module _ {o : Endian} {s : List ℕ} {from count address left place i : ℕ} (h 
       let z : left ≡ 0 = omega arith in
       sym (h .same ∙ ap (λ (n : ℕ). from-number i (position (covers address) (triesFrom o s place n))) z)
 
-module _ (t : Try) (address : ℕ) where
-  pub cover-low : address < t .start → false ≡ covers address t
-  unfolding covers
-  cover-low h = rw (lt-leb (t .start) address h)
+module _ (start units address : ℕ) where
+  pub cover-low : address < start → false ≡ leb start address && ltb address (start + units)
+  cover-low h = rw (lt-leb start address h)
 
-  pub cover-high : t .start ≤ address → ltb address (t .start + t .count) ≡ covers address t
-  unfolding covers
-  cover-high h = rw (le-leb (t .start) address h)
+  pub cover-high : start ≤ address → ltb address (start + units) ≡ leb start address && ltb address (start + units)
+  cover-high h = rw (le-leb start address h)
 
 -- ---- the tries of an item that was read are those that lie there
 tries-are : (o : Endian) (s : List ℕ) (units : ℕ) {n : ℕ} {r u : Run} {l : List Try} → Row (TryRule o s units) n r l u → triesFrom o s (r .place) n ≡ l
@@ -142,6 +145,29 @@ module _ (s : List ℕ) (f : Frame) (item address : ℕ) {x : KeptAnswer} (e : k
         sym (bind-answer _ (code-exact s f item .complete (c .code) (c .rule))
         ∙ ap (λ (ts : List Try). answer (position (covers address) ts)) (sym (tries-are (f .order) s (c .code .head .units) (c .rule .tries)) ∙ λ i. triesFrom (f .order) s (c .from-is i) (c .head-is i .tries))
         ∙ ap answer (sym g))
+
+-- ---- at most one try covers an address
+abbrev pub Covers : ℕ → Try → Type 0
+Covers address t = (t .start ≤ address) × (address < t .start + t .count)
+
+pub covers-decides : (address : ℕ) (t : Try) → Decides (covers address t) (Covers address t)
+unfolding covers
+covers-decides address t = both (at-most (t .start) address) (below address (t .start + t .count))
+
+module _ (o : Endian) (s : List ℕ) (units : ℕ) where
+  floor-below : {n : ℕ} {r u : Run} {l : List Try} {k : ℕ} {t : Try} → Row (TryRule o s units) n r l u → At l k t → r .floor ≤ t .start
+  floor-below (first h r) here = h .after
+  floor-below (first h r) (there m) =
+      let rest = floor-below r m in
+      let a = h .after in
+      let b = h .floor in
+      omega arith
+
+  pub covered-once : {n : ℕ} {r u : Run} {l : List Try} {i j : ℕ} {a b : Try} (x : ℕ) → Row (TryRule o s units) n r l u → At l i a → At l j b → Covers x a → Covers x b → i ≡ j
+  covered-once x (first h r) here here p q = refl
+  covered-once x (first h r) here (there m) p q = let z = floor-below r m in let e = h .floor in absurd (let y = p .1 in let w = q .0 in omega arith)
+  covered-once x (first h r) (there m) here p q = let z = floor-below r m in let e = h .floor in absurd (let y = q .1 in let w = p .0 in omega arith)
+  covered-once x (first h r) (there m) (there k) p q = ap suc (covered-once x r m k p q)
 
 -- ---- what is answered is a try that covers the address, or none where no try does, and at most one does
 pub covering-sought : (c : Code) (address : ℕ) → Sought (Covers address) (c .tries) (position (covers address) (c .tries))

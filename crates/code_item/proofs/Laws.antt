@@ -1,211 +1,62 @@
--- What the functions' proofs cite: the loops over tries and over the starts of handlers, and the stages of the whole.
+-- What the functions' proofs cite: the readings from what is kept of a code item.
 -- Assumes nothing.
-use Prim.Native.Nat.{ℕ, zero, suc, _+_, _-_, _*_, _%_, _<_, _≤_}
-use mathlib.Core.Path.{_≡_, refl, ap, sym, _∙_}
-use mathlib.Core.Bool.{Bool, true, false, cond}
+use Prim.Native.Nat.{ℕ, _<_}
+use mathlib.Core.Path.{_≡_, refl, _∙_}
+use mathlib.Core.Bool.{cond}
+use mathlib.Core.Option.{Option, none, some}
 use mathlib.Core.List.{List}
-use lib.ListN.{length}
-use lib.Dec.{leb, eqb}
+use lib.ListN.{length, getD}
+use lib.Dec.{ltb}
 use borrow.Author.Needs.{needs}
-use borrow.Author.Tests.{lt-ltb, le-ltb, le-leb, lt-leb, eq-eqb, ne-eqb}
-use native.Mathlib.Omega.{arith}
-use Rattle.refusal.specs.declared.Refusal.{Refusal}
-use Rattle.refusal.specs.Outcome.{answer, refused, _>>=_}
-use Rattle.refusal.specs.Rows.{Found}
-use Rattle.refusal.proofs.Laws.{tests, calls, bind-answer, bind-refused, passes, fails, picks, leaves}
-use Rattle.refusal.proofs.Choose.{Choosing, choosing-first, choosing-next, choosing-stop, choosing-done}
-use Rattle.word.specs.Words.{u16At, u32At}
-use Rattle.word.specs.declared.Endian.{Endian}
+use borrow.Author.Tests.{lt-ltb}
+use Rattle.refusal.specs.Outcome.{Outcome, answer, _>>=_, given}
+use Rattle.refusal.proofs.Laws.{tests, calls, passes}
+use Rattle.refusal.proofs.Rows.{bind-assoc}
 use Rattle.frame.specs.declared.Frame.{Frame}
-use Rattle.frame.specs.Offsets.{allowedOrAbsent}
-use Rattle.handlers.specs.declared.Judge.{Judge}
+use Rattle.handlers.specs.declared.Pair.{Pair}
 use Rattle.handlers.specs.declared.Brief.{Brief}
-use Rattle.handlers.specs.declared.BriefFound.{BriefFound}
-use Rattle.handlers.specs.declared.BriefFound.the-variants as B
-use Rattle.handlers.specs.Answers.{brief-outcome}
 use Rattle.handlers.specs.Handlers as H
-use Rattle.handlers.proofs.Laws.{behind, unread}
-use Rattle.code_item.specs.declared.Try.{Try}
-use Rattle.code_item.specs.Tries.{tryAt, tryAllowed, judged, stepAt, begin, isStart, no-try, item-alone, keptTry, startAt, walkAt, keptLink}
-use Rattle.code_item.specs.Code.{headAt, padding}
+use Rattle.code_bodies.specs.Code.{Code, codeAt, Kept, kept, keptAt}
+use Rattle.code_bodies.proofs.Stages.{on-kept}
+use Rattle.code_item.specs.declared.Outline.{Outline}
+use Rattle.code_item.specs.declared.Catch.{Catch}
+use Rattle.code_item.specs.Code.{outlineAt, Linked, tryOf, Handed, handlerOf, pairOf, catchIn, pairIn}
+use Rattle.code_item.specs.Answers.{catch-meant}
 
--- ---- the loop of `tries_found` at its head
-pub record Trying (o : Endian) (s : List ℕ) (units item from count k left place floor i : ℕ) (keep : Try) : Type 0 where
-  choosing : Choosing (stepAt o s units item) count (begin from) no-try k left (record { place = place; floor = floor }) i keep
-  pub sum : i + left ≡ count
-  pub room : place + 8 * left ≤ length s
-
-pub trying-first : (o : Endian) (s : List ℕ) (units item from count k : ℕ) → from + 8 * count ≤ length s → Trying o s units item from count k count from 0 0 no-try
-trying-first o s units item from count k h = record { choosing = choosing-first (stepAt o s units item) count (begin from) no-try k; sum = omega arith; room = h }
-
-module _ {o : Endian} {s : List ℕ} {units item from count k left place floor i : ℕ} {keep : Try} (h : Trying o s units item from count k left place floor i keep) where
-  pub trying-room : 0 < left → place + 8 ≤ length s
-  trying-room l = let z = h .room in omega arith
-
-  module _ {t : Try} {b : Bool} (l : 0 < left) (read : t ≡ tryAt o s place) (asked : b ≡ tryAllowed units floor t) where
-    pub trying-next : {new : Try} → b ≡ true → new ≡ cond (eqb i k) t keep → Trying o s units item from count k (left - 1) (place + 8) (t .start + t .count) (i + 1) new
-    unfolding stepAt judged
-    trying-next e w = record {
-      choosing = choosing-next (h .choosing) l (passes 17 item (sym asked ∙ e) refl ∙ ap (judged units item (record { place = place; floor = floor })) read) w;
-      sum = let z = h .sum in omega arith;
-      room = let z = h .room in omega arith;
-    }
-
-    pub trying-stop : b ≡ false → refused (record { number = 17; place = item }) ≡ keptTry o s units item from count k
-    unfolding keptTry stepAt judged
-    trying-stop e = sym (bind-refused item-alone (sym (choosing-stop (h .choosing) l (fails _ (sym asked ∙ e) ∙ ap (judged units item (record { place = place; floor = floor })) read))))
-
-  pub trying-done : left ≤ 0 → answer keep ≡ keptTry o s units item from count k
-  unfolding keptTry
-  trying-done l = sym (bind-answer item-alone (sym (choosing-done (h .choosing) l)))
-
-module _ (units floor : ℕ) (t : Try) where
-  pub try-low : t .start < floor → false ≡ tryAllowed units floor t
-  unfolding tryAllowed
-  try-low h = rw (lt-leb floor (t .start) h)
-
-  pub try-room : floor ≤ t .start → leb (t .start + t .count) units ≡ tryAllowed units floor t
-  unfolding tryAllowed
-  try-room h = rw (le-leb floor (t .start) h)
-
--- ---- the loops of `links_at` at their heads
-pub record Linking (o : Endian) (s : List ℕ) (j : Judge) (first handlers from count k left place i keep : ℕ) : Type 0 where
-  choosing : Choosing (walkAt o s j first handlers) count from 0 k left place i keep
-  pub sum : i + left ≡ count
-  pub room : place + 8 * left ≤ length s
-
--- among the handlers: the search for a start is the search from here
-pub record Starting (o : Endian) (s : List ℕ) (j : Judge) (first handlers from count k left place i keep want p number unseen : ℕ) : Type 0 where
-  pub linking : Linking o s j first handlers from count k left place i keep
-  pub some-left : 0 < left
-  is : want ≡ u16At o s (place + 6)
-  same : startAt s j (u16At o s (place + 6)) handlers first 0 ≡ startAt s j (u16At o s (place + 6)) unseen p number
-  pub seen : number + unseen ≡ handlers
-
-pub linking-first : (o : Endian) (s : List ℕ) (j : Judge) (first handlers from count k : ℕ) → from + 8 * count ≤ length s → Linking o s j first handlers from count k count from 0 0
-linking-first o s j first handlers from count k h = record { choosing = choosing-first (walkAt o s j first handlers) count from 0 k; sum = omega arith; room = h }
-
-module _ {o : Endian} {s : List ℕ} {j : Judge} {first handlers from count k left place i keep : ℕ} (h : Linking o s j first handlers from count k left place i keep) where
-  pub starting-first : {want : ℕ} → 0 < left → want ≡ u16At o s (place + 6) → Starting o s j first handlers from count k left place i keep want first 0 handlers
-  starting-first l e = record { linking = h; some-left = l; is = e; same = refl; seen = omega arith }
-
-  pub linking-done : left ≤ 0 → answer keep ≡ keptLink o s j first handlers from count k
-  unfolding keptLink
-  linking-done l = sym (bind-answer item-alone (sym (choosing-done (h .choosing) l)))
-
-module _ {o : Endian} {s : List ℕ} {j : Judge} {first handlers from count k left place i keep want p number unseen : ℕ}
-    (h : Starting o s j first handlers from count k left place i keep want p number unseen) where
-  start-more : (left : ℕ) → 0 < left → startAt s j (u16At o s (place + 6)) left p number
-      ≡ (H.handlerAt s j p >>= λ (a : Found H.Handler ℕ). cond (isStart (u16At o s (place + 6)) (a .item)) (answer number) (startAt s j (u16At o s (place + 6)) (left - 1) (a .next) (number + 1)))
-  unfolding startAt
-  start-more zero q = absurd (omega arith)
-  start-more (suc n) q =
-      let back : suc n - 1 ≡ n = omega arith in
-      rw back
-
-  stopped : {r : Refusal} → startAt s j (u16At o s (place + 6)) unseen p number ≡ refused r → refused r ≡ keptLink o s j first handlers from count k
-  unfolding keptLink walkAt
-  stopped e = sym (bind-refused item-alone (sym (choosing-stop (h .linking .choosing) (h .some-left) (sym (bind-refused _ (h .same ∙ e))))))
-
-  pub starting-none : unseen ≤ 0 → refused (record { number = 17; place = j .item }) ≡ keptLink o s j first handlers from count k
-  unfolding startAt
-  starting-none q = stopped (go unseen q)
-    where
-      go : (n : ℕ) → n ≤ 0 → startAt s j (u16At o s (place + 6)) n p number ≡ refused (record { number = 17; place = j .item })
-      go zero q = refl
-      go (suc n) q = absurd (omega arith)
-
-  module _ (q : 0 < unseen) {x : BriefFound} (e : brief-outcome x ≡ H.keptHandler s j 0 p) where
-    pub starting-stop : {r : Refusal} → x ≡ B.Refused r → refused r ≡ keptLink o s j first handlers from count k
-    starting-stop t = stopped (start-more unseen q ∙ bind-refused _ (sym (unread s j 0 p (sym (ap brief-outcome t) ∙ e))))
-
-    module _ {b : Brief} {n : ℕ} (t : x ≡ B.Got b n) where
-      pub starting-next : (b .offset ≡ want → ⊥) → Starting o s j first handlers from count k left place i keep want n (number + 1) (unseen - 1)
-      unfolding isStart
-      starting-next d =
-          let a = behind s j 0 p (sym (ap brief-outcome t) ∙ e) in
-          let offset = ap (λ (x : Brief). x .offset) (a .1 .1) in
-          let other : a .0 .offset ≡ u16At o s (place + 6) → ⊥ = λ y. d (sym offset ∙ y ∙ sym (h .is)) in
-          record {
-            linking = h .linking;
-            some-left = h .some-left;
-            is = h .is;
-            same = h .same ∙ start-more unseen q ∙ bind-answer _ (sym (a .1 .0)) ∙ sym (leaves _ (ne-eqb (a .0 .offset) (u16At o s (place + 6)) other) refl);
-            seen = let z = h .seen in omega arith;
-          }
-
-      pub starting-found : {new : ℕ} → b .offset ≡ want → new ≡ cond (eqb i k) number keep → Linking o s j first handlers from count k (left - 1) (place + 8) (i + 1) new
-      unfolding isStart walkAt
-      starting-found d w =
-          let a = behind s j 0 p (sym (ap brief-outcome t) ∙ e) in
-          let offset = ap (λ (x : Brief). x .offset) (a .1 .1) in
-          let l = h .some-left in
-          let found = h .same ∙ start-more unseen q ∙ bind-answer _ (sym (a .1 .0)) ∙ sym (picks _ (eq-eqb (a .0 .offset) (u16At o s (place + 6)) (offset ∙ d ∙ h .is)) refl) in
-          record {
-            choosing = choosing-next (h .linking .choosing) l (sym (bind-answer _ found)) w;
-            sum = let z = h .linking .sum in omega arith;
-            room = let z = h .linking .room in omega arith;
-          }
-
-pub linking-room : {o : Endian} {s : List ℕ} {j : Judge} {first handlers from count k left place i keep : ℕ} → Linking o s j first handlers from count k left place i keep → 0 < left → place + 8 ≤ length s
-linking-room h l = let z = h .room in omega arith
-
-pub ruleset try-laws = (trying-first, trying-room, trying-next, trying-stop, trying-done, try-low, try-room, tests, needs)
-
-pub ruleset link-laws = (linking-first, starting-first, linking-done, starting-none, starting-stop, starting-next, starting-found, linking-room, needs)
-
--- ---- a try from the values that were read
-pub try-by : (o : Endian) (s : List ℕ) (p : ℕ) {a b c : ℕ} → a ≡ u32At o s p → b ≡ u16At o s (p + 4) → c ≡ u16At o s (p + 6) → record { start = a; count = b; handler = c } ≡ tryAt o s p
-try-by o s p e f g = λ i. record { start = e i; count = f i; handler = g i }
-
--- ---- the head, from the values that were read
 module _ (s : List ℕ) (f : Frame) (item : ℕ) where
-  pub head-low : length s < item → refused (record { number = 9; place = item }) ≡ headAt s f item
-  unfolding headAt
-  head-low h = fails _ (lt-leb (item + 12) (length s) (omega arith))
+  pub outline-by : {y : Outcome Outline} → y ≡ (keptAt s f item 0 0 0 >>= λ (c : Kept). answer (record { head = c .head; handlers = c .handlers; from = c .from; base = c .base; end = c .end })) → y ≡ outlineAt s f item
+  unfolding outlineAt keptAt _>>=_
+  outline-by e = e ∙ bind-assoc (codeAt s f item) (kept 0 0 0) _
 
-  module _ (p : item ≤ length s) where
-    pub head-short : length s - item < 12 → refused (record { number = 9; place = item }) ≡ headAt s f item
-    unfolding headAt
-    head-short h = fails _ (lt-leb (item + 12) (length s) (omega arith))
+  pub try-of-by : (t : ℕ) {y : Outcome Linked} → y ≡ (keptAt s f item t 0 0 >>= λ (c : Kept). given (ltb t (c .head .tries)) 7 0 (answer (record { attempt = c .attempt; number = c .link }))) → y ≡ tryOf s f item t
+  unfolding tryOf keptAt _>>=_
+  try-of-by t e = e ∙ bind-assoc (codeAt s f item) (kept t 0 0) _
 
-    module _ (q : 12 ≤ length s - item) {debug : ℕ} {b : Bool} (read : debug ≡ u32At (f .order) s (item + 8)) (asked : b ≡ allowedOrAbsent (f .start) (length s) false debug) where
-      there : allowedOrAbsent (f .start) (length s) false (u32At (f .order) s (item + 8)) ≡ b
-      there = ap (allowedOrAbsent (f .start) (length s) false) (sym read) ∙ sym asked
+  pub handler-of-by : (h : ℕ) {y : Outcome Handed}
+      → y ≡ (keptAt s f item 0 h 0 >>= λ (c : Kept). given (ltb h (c .handlers)) 7 0 (answer (record { offset = c .brief .offset; pairs = c .brief .pairs; all = catchIn (c .brief) }))) → y ≡ handlerOf s f item h
+  unfolding handlerOf keptAt catchIn _>>=_
+  handler-of-by h e =
+      e ∙ bind-assoc (codeAt s f item) (kept 0 h 0) _
+      ∙ λ i. codeAt s f item >>= λ (c : Code). given (ltb h (length (c .handlers .handlers))) 7 0 (answer (record {
+        offset = getD (c .handlers .handlers) h H.nobody .offset;
+        pairs = length (getD (c .handlers .handlers) h H.nobody .pairs);
+        all = caught (getD (c .handlers .handlers) h H.nobody .all) i;
+      }))
+    where
+      caught : (o : Option ℕ) → cond (H.caught-in o) (some (H.address-in o)) none ≡ o
+      caught none = refl
+      caught (some a) = refl
 
-      pub head-outside : b ≡ false → refused (record { number = 8; place = item }) ≡ headAt s f item
-      unfolding headAt
-      head-outside e = passes 9 item (le-leb (item + 12) (length s) (omega arith)) (fails _ (there ∙ e))
+  pub pair-of-by : (h k : ℕ) {y : Outcome Pair} → y ≡ (keptAt s f item 0 h k >>= λ (c : Kept). given (ltb h (c .handlers)) 7 0 (pairIn (c .brief) k)) → y ≡ pairOf s f item h k
+  unfolding pairOf keptAt pairIn _>>=_
+  pair-of-by h k e = e ∙ bind-assoc (codeAt s f item) (kept 0 h k) _
 
-      pub head-late : b ≡ true → length s - item < 16 → refused (record { number = 9; place = item }) ≡ headAt s f item
-      unfolding headAt
-      head-late e h = passes 9 item (le-leb (item + 12) (length s) (omega arith)) (passes 8 item (there ∙ e) (fails _ (lt-leb (item + 16) (length s) (omega arith))))
+-- a handler that is handed out
+module _ (h n : ℕ) (b : Brief) where
+  pub handler-there : (x : Catch) → h < n → catch-meant x ≡ catchIn b
+      → _≡_ {A = Outcome Handed} (answer (record { offset = b .offset; pairs = b .pairs; all = catch-meant x })) (given (ltb h n) 7 0 (answer (record { offset = b .offset; pairs = b .pairs; all = catchIn b })))
+  handler-there x p e = passes 7 0 (lt-ltb h n p) (λ i. answer (record { offset = b .offset; pairs = b .pairs; all = e i }))
 
-      pub head-got : {r i u t n : ℕ} → b ≡ true → 16 ≤ length s - item → r ≡ u16At (f .order) s item → i ≡ u16At (f .order) s (item + 2) → u ≡ u16At (f .order) s (item + 4)
-          → t ≡ u16At (f .order) s (item + 6) → n ≡ u32At (f .order) s (item + 12) → answer (record { registers = r; ins = i; outs = u; tries = t; debug = debug; units = n }) ≡ headAt s f item
-      unfolding headAt
-      head-got e h a b c d g =
-          passes 9 item (le-leb (item + 12) (length s) (omega arith)) (passes 8 item (there ∙ e) (passes 9 item (le-leb (item + 16) (length s) (omega arith))
-          (λ k. answer (record { registers = a k; ins = b k; outs = c k; tries = d k; debug = read k; units = g k }))))
+pub ruleset part-laws = (calls, tests, needs)
 
--- ---- padding, and how far the tries are
-module _ (tries units : ℕ) where
-  pub pad-odd : 0 < tries → units % 2 ≡ 1 → 2 ≡ padding tries units
-  unfolding padding
-  pad-odd p q = rw (lt-ltb 0 tries p, eq-eqb (units % 2) 1 q)
-
-  pub pad-even : 0 < tries → (units % 2 ≡ 1 → ⊥) → 0 ≡ padding tries units
-  unfolding padding
-  pad-even p q = rw (lt-ltb 0 tries p, ne-eqb (units % 2) 1 q)
-
-  pub pad-none : tries ≤ 0 → 0 ≡ padding tries units
-  unfolding padding
-  pad-none p = rw (le-ltb 0 tries p)
-
-pub ruleset pad-laws = (pad-odd, pad-even, pad-none, needs)
-
-pub ruleset read-laws = (try-by, needs)
-
-pub ruleset head-laws = (head-low, head-short, head-outside, head-late, head-got, needs)
-
-pub ruleset answer-laws = (calls, tests, needs)
+pub ruleset answer-laws = (on-kept, outline-by, try-of-by, handler-of-by, pair-of-by, handler-there, calls, tests, needs)

@@ -1,5 +1,3 @@
-pub mod Exactly
 pub mod Laws
-pub mod Stages
 pub mod Once
 pub mod Covering

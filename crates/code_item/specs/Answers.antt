@@ -3,14 +3,8 @@ use Prim.Native.Nat.{ℕ}
 use mathlib.Core.Option.{Option, none, some}
 use Rattle.refusal.specs.Outcome.{Outcome, answer, refused}
 use Rattle.handlers.specs.declared.Pair.{Pair}
-use Rattle.code_item.specs.Code.{Linked, Handed, Kept}
-use Rattle.code_item.specs.declared.Head.{Head}
-use Rattle.code_item.specs.declared.Try.{Try}
+use Rattle.code_item.specs.Code.{Linked, Handed}
 use Rattle.code_item.specs.declared.Outline.{Outline}
-use Rattle.code_item.specs.declared.HeadAnswer as E
-use Rattle.code_item.specs.declared.TryFound as F
-use Rattle.code_item.specs.declared.Number as N
-use Rattle.code_item.specs.declared.KeptAnswer as K
 use Rattle.code_item.specs.declared.CodeAnswer as C
 use Rattle.code_item.specs.declared.TryAnswer as T
 use Rattle.code_item.specs.declared.Catch as A
@@ -18,22 +12,6 @@ use Rattle.code_item.specs.declared.HandlerAnswer as H
 use Rattle.code_item.specs.declared.PairAnswer as P
 use Rattle.code_item.specs.declared.Cover as O
 use Rattle.code_item.specs.declared.CoverAnswer as W
-
-abbrev pub head-outcome : E.HeadAnswer → Outcome Head
-head-outcome (E.the-variants.Got h) = answer h
-head-outcome (E.the-variants.Refused r) = refused r
-
-abbrev pub try-found : F.TryFound → Outcome Try
-try-found (F.the-variants.Got t) = answer t
-try-found (F.the-variants.Refused r) = refused r
-
-abbrev pub number-outcome : N.Number → Outcome ℕ
-number-outcome (N.the-variants.Got n) = answer n
-number-outcome (N.the-variants.Refused r) = refused r
-
-abbrev pub kept-outcome : K.KeptAnswer → Outcome Kept
-kept-outcome (K.the-variants.Got h a l n b f d e) = answer (record { head = h; attempt = a; link = l; handlers = n; brief = b; from = f; base = d; end = e })
-kept-outcome (K.the-variants.Refused r) = refused r
 
 abbrev pub code-outcome : C.CodeAnswer → Outcome Outline
 code-outcome (C.the-variants.Got o) = answer o

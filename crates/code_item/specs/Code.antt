@@ -1,84 +1,23 @@
--- A code item as a reading: "its own bytes, whole, in stored order".
-use Prim.Native.Nat.{ℕ, _+_, _*_, _%_}
-use mathlib.Core.Bool.{false, cond, _&&_}
+-- What is handed out of a code item.
+use Prim.Native.Nat.{ℕ}
+use mathlib.Core.Bool.{cond}
 use mathlib.Core.Option.{Option, none, some}
-use mathlib.Core.List.{List, []}
+use mathlib.Core.List.{List}
 use lib.ListN.{length, getD}
-use lib.Dec.{ltb, leb, eqb}
-use Rattle.refusal.specs.Outcome.{Outcome, answer, _>>=_, given}
+use lib.Dec.{ltb}
 use Rattle.refusal.specs.Seek.{position}
-use Rattle.word.specs.Words.{u16At, u32At}
-use Rattle.word.specs.declared.Endian.{Endian}
+use Rattle.refusal.specs.Outcome.{Outcome, answer, _>>=_, given}
 use Rattle.frame.specs.declared.Frame.{Frame}
-use Rattle.frame.specs.Offsets.{allowedOrAbsent}
-use Rattle.handlers.specs.declared.Judge.{Judge}
 use Rattle.handlers.specs.declared.Pair.{Pair}
 use Rattle.handlers.specs.declared.Brief.{Brief}
 use Rattle.handlers.specs.Handlers as H
-use Rattle.code_units.specs.Units.{unitsAt}
-use Rattle.code_item.specs.declared.Head.{Head}
-use Rattle.code_item.specs.declared.Try.{Try}
+use Rattle.code_bodies.specs.declared.Try.{Try}
+use Rattle.code_bodies.specs.Tries.{no-try}
+use Rattle.code_bodies.specs.Code.{Code, codeAt}
 use Rattle.code_item.specs.declared.Outline.{Outline}
-use Rattle.code_item.specs.Tries.{covers, triesAt, linksAt, no-try, keptTry, keptLink}
+use Rattle.code_item.specs.Covering.{covers}
 
--- fields in stored order: a debug offset that is there and wrong (8) comes before a later field that is missing (9)
-unfoldable pub headAt : List ℕ → Frame → ℕ → Outcome Head
-headAt s f item =
-    given (leb (item + 12) (length s)) 9 item
-    (given (allowedOrAbsent (f .start) (length s) false (u32At (f .order) s (item + 8))) 8 item
-    (given (leb (item + 16) (length s)) 9 item
-    (answer (record {
-      registers = u16At (f .order) s item;
-      ins = u16At (f .order) s (item + 2);
-      outs = u16At (f .order) s (item + 4);
-      tries = u16At (f .order) s (item + 6);
-      debug = u32At (f .order) s (item + 8);
-      units = u32At (f .order) s (item + 12);
-    }))))
-
--- "Padding of two bytes follows an odd unit count only if there are tries."
-unfoldable pub padding : ℕ → ℕ → ℕ
-padding tries units = cond (ltb 0 tries && eqb (units % 2) 1) 2 0
-
--- how far from the item the tries are, and how far the handler list
-unfoldable pub bodySize : Head → ℕ
-bodySize h = 16 + 2 * h .units + padding (h .tries) (h .units)
-
-abbrev pub judge-of : Frame → ℕ → Head → ℕ → Judge
-judge-of f item h base = record { types = f .types; units = h .units; item = item; base = base }
-
--- "Without tries there is no handler list."
-unfoldable pub listAt : List ℕ → Frame → ℕ → Head → ℕ → Outcome H.HandlerList
-listAt s f item h base = cond (ltb 0 (h .tries)) (H.handlersAt s (judge-of f item h base)) (answer (record { first = base; handlers = []; end = base }))
-
--- what the bytes say
-pub record Code : Type 0 where
-  pub head : Head
-  pub units : List ℕ
-  pub tries : List Try
-  pub handlers : H.HandlerList
-  pub links : List ℕ
-  pub from : ℕ
-  pub base : ℕ
-
--- tries, handler list, and then the tries' handler offsets
-unfoldable pub partsAt : List ℕ → Frame → ℕ → Head → ℕ → ℕ → Outcome Code
-partsAt s f item h from base = do
-  t ← triesAt (f .order) s (h .units) item from (h .tries)
-  l ← listAt s f item h base
-  n ← linksAt (f .order) s (l .handlers) item from (h .tries)
-  answer (record { head = h; units = unitsAt (f .order) s (item + 16) (h .units); tries = t .item; handlers = l; links = n .item; from = from; base = base })
-
--- units, padding and tries are 9 where they run past the end
-unfoldable pub bodyAt : List ℕ → Frame → ℕ → Head → Outcome Code
-bodyAt s f item h =
-    given (leb (item + (bodySize h + 8 * h .tries)) (length s)) 9 item
-    (partsAt s f item h (item + bodySize h) (item + (bodySize h + 8 * h .tries)))
-
-unfoldable pub codeAt : List ℕ → Frame → ℕ → Outcome Code
-codeAt s f item = headAt s f item >>= bodyAt s f item
-
--- ---- what is handed out of it
+-- its head, how many handlers, and its places
 abbrev pub outline : Code → Outline
 outline c = record { head = c .head; handlers = length (c .handlers .handlers); from = c .from; base = c .base; end = c .handlers .end }
 
@@ -125,54 +64,7 @@ pairOf s f item h k = do
       (given (ltb k (length (getD (c .handlers .handlers) h H.nobody .pairs))) 7 0
       (answer (getD (getD (c .handlers .handlers) h H.nobody .pairs) k H.nothing)))
 
--- ---- stages of the code, which keeps try t with its link, and pair k of handler h
-pub record Kept : Type 0 where
-  pub head : Head
-  pub attempt : Try
-  pub link : ℕ
-  pub handlers : ℕ
-  pub brief : Brief
-  pub from : ℕ
-  pub base : ℕ
-  pub end : ℕ
-
-abbrev pub kept : ℕ → ℕ → ℕ → Code → Outcome Kept
-kept t h k c = answer (record {
-  head = c .head;
-  attempt = getD (c .tries) t no-try;
-  link = getD (c .links) t 0;
-  handlers = length (c .handlers .handlers);
-  brief = H.brief k (getD (c .handlers .handlers) h H.nobody);
-  from = c .from;
-  base = c .base;
-  end = c .handlers .end;
-})
-
-unfoldable pub keptAt : List ℕ → Frame → ℕ → ℕ → ℕ → ℕ → Outcome Kept
-keptAt s f item t h k = codeAt s f item >>= kept t h k
-
--- with tries
-unfoldable pub linkedStage : List ℕ → Endian → Judge → Head → Try → ℕ → ℕ → ℕ → ℕ → Outcome Kept
-linkedStage s o j head attempt from t h k = do
-  l ← H.keptAt s j h k
-  n ← keptLink o s j (l .first) (l .count) from (head .tries) t
-  answer (record { head = head; attempt = attempt; link = n; handlers = l .count; brief = l .brief; from = from; base = j .base; end = l .end })
-
-unfoldable pub listedStage : List ℕ → Endian → Judge → Head → Try → ℕ → ℕ → ℕ → ℕ → Outcome Kept
-listedStage s o j head attempt from t h k =
-    cond (ltb 0 (head .tries)) (linkedStage s o j head attempt from t h k)
-    (answer (record { head = head; attempt = attempt; link = 0; handlers = 0; brief = H.brief k H.nobody; from = from; base = j .base; end = j .base }))
-
-unfoldable pub partsStage : List ℕ → Endian → Judge → Head → ℕ → ℕ → ℕ → ℕ → Outcome Kept
-partsStage s o j head from t h k = do
-  a ← keptTry o s (head .units) (j .item) from (head .tries) t
-  listedStage s o j head a from t h k
-
-unfoldable pub bodyStage : List ℕ → Frame → ℕ → Head → ℕ → ℕ → ℕ → Outcome Kept
-bodyStage s f item head t h k =
-    given (leb (item + (bodySize head + 8 * head .tries)) (length s)) 9 item
-    (partsStage s (f .order) (judge-of f item head (item + (bodySize head + 8 * head .tries))) head (item + bodySize head) t h k)
-
+-- ---- from what the code keeps of a handler
 unfoldable pub catchIn : Brief → Option ℕ
 catchIn b = cond (b .caught) (some (b .all)) none
 

@@ -1,4 +1,3 @@
-pub mod Tries
+pub mod Covering
 pub mod Code
-pub mod Rules
 pub mod Answers

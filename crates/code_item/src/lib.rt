@@ -1,65 +1,21 @@
-// A code item: its head, its units, its tries and their handlers.
+// Code items, their tries, handlers and pairs by number, and the try that covers an address.
 // `s` ends where the data section ends, `item` is the place of the code item.
+use code_bodies::KeptAnswer;
+use code_bodies::Try;
+use code_heads::Head;
+use frame::Frame;
 use handlers::Brief;
 use handlers::Pair;
 use refusal::Refusal;
-
-mod bodies;
-mod heads;
-mod items;
-
-pub use bodies::covering_try;
-pub use items::code_at;
-pub use items::handler_at;
-pub use items::pair_at;
-pub use items::try_at;
-
-// The head of a code item, in stored order.
-pub struct Head {
-    pub registers: u16,
-    pub ins: u16,
-    pub outs: u16,
-    pub tries: u16,
-    pub debug: u32,
-    pub units: u32,
-}
-
-// A try: its first unit, how many units, and its handler's offset from the handler list's first byte.
-pub struct Try {
-    pub start: u32,
-    pub count: u16,
-    pub handler: u16,
-}
-
-pub enum HeadAnswer {
-    Got(Head),
-    Refused(Refusal),
-}
-
-pub enum TryFound {
-    Got(Try),
-    Refused(Refusal),
-}
-
-pub enum Number {
-    Got(u32),
-    Refused(Refusal),
-}
-
-// The whole, with one try and its handler's number, and one handler.
-pub enum KeptAnswer {
-    Got {
-        head: Head,
-        attempt: Try,
-        link: u32,
-        handlers: u32,
-        brief: Brief,
-        from: usize,
-        base: usize,
-        end: usize,
-    },
-    Refused(Refusal),
-}
+use word::Endian;
+ghost use mathlib.Core.Path.{_≡_};
+ghost use mathlib.Core.Bool.{_&&_};
+ghost use Prim.Native.Nat.{_+_, _*_, _≤_};
+ghost use lib.ListN.{length};
+ghost use lib.Dec.{ltb, leb};
+ghost use Rattle.code_item.specs.Covering.{coverAt};
+ghost use Rattle.code_item.specs.Code.{outlineAt, coveringOf, tryOf, handlerOf, pairOf, catchIn, pairIn};
+ghost use Rattle.code_item.specs.Answers.{code-outcome, try-outcome, catch-meant, handler-outcome, pair-outcome, cover-meant, cover-outcome};
 
 // The sizes, counts and places of a code item: 16 bytes after its place its units begin, its tries at `from`, its handler list at `base`.
 pub struct Outline {
@@ -110,4 +66,192 @@ pub enum Cover {
 pub enum CoverAnswer {
     Got(Cover),
     Refused(Refusal),
+}
+
+// The code item at a place.
+pub fn code_at(s: &[u8], f: Frame, item: usize) -> CodeAnswer
+    ensures { λ r. ⌜ code-outcome r ≡ outlineAt (now (s .entry)) f item ⌝ }
+{
+    match code_bodies::kept_at(s, f, item, 0, 0, 0) {
+        KeptAnswer::Refused(r) => CodeAnswer::Refused(r),
+        KeptAnswer::Got {
+            head,
+            attempt: _,
+            link: _,
+            handlers,
+            brief: _,
+            from,
+            base,
+            end,
+        } => CodeAnswer::Got(Outline {
+            head,
+            handlers,
+            from,
+            base,
+            end,
+        }),
+    }
+}
+
+// Try t of the code item at a place.
+pub fn try_at(s: &[u8], f: Frame, item: usize, t: u32) -> TryAnswer
+    ensures { λ r. ⌜ try-outcome r ≡ tryOf (now (s .entry)) f item t ⌝ }
+{
+    match code_bodies::kept_at(s, f, item, t, 0, 0) {
+        KeptAnswer::Refused(r) => TryAnswer::Refused(r),
+        KeptAnswer::Got {
+            head,
+            attempt,
+            link,
+            handlers: _,
+            brief: _,
+            from: _,
+            base: _,
+            end: _,
+        } => {
+            if t < head.tries as u32 {
+                return TryAnswer::Got {
+                    attempt,
+                    number: link,
+                };
+            }
+            TryAnswer::Refused(Refusal {
+                number: 7,
+                place: 0,
+            })
+        }
+    }
+}
+
+// The catch-all of a handler.
+fn catch_in(b: Brief) -> Catch
+    ensures { λ r. ⌜ catch-meant r ≡ catchIn b ⌝ }
+{
+    if b.caught {
+        return Catch::At(b.all);
+    }
+    Catch::Absent
+}
+
+// Handler h of the code item at a place.
+pub fn handler_at(s: &[u8], f: Frame, item: usize, h: u32) -> HandlerAnswer
+    ensures { λ r. ⌜ handler-outcome r ≡ handlerOf (now (s .entry)) f item h ⌝ }
+{
+    match code_bodies::kept_at(s, f, item, 0, h, 0) {
+        KeptAnswer::Refused(r) => HandlerAnswer::Refused(r),
+        KeptAnswer::Got {
+            head: _,
+            attempt: _,
+            link: _,
+            handlers,
+            brief,
+            from: _,
+            base: _,
+            end: _,
+        } => {
+            if h < handlers {
+                return HandlerAnswer::Got {
+                    offset: brief.offset,
+                    pairs: brief.pairs,
+                    all: catch_in(brief),
+                };
+            }
+            HandlerAnswer::Refused(Refusal {
+                number: 7,
+                place: 0,
+            })
+        }
+    }
+}
+
+// The pair that is kept of a handler, where it is there.
+fn pair_in(b: Brief, k: u32) -> PairAnswer
+    ensures { λ r. ⌜ pair-outcome r ≡ pairIn b k ⌝ }
+{
+    let pair = b.pair;
+    if k < b.pairs {
+        return PairAnswer::Got(pair);
+    }
+    PairAnswer::Refused(Refusal {
+        number: 7,
+        place: 0,
+    })
+}
+
+// Pair k of handler h of the code item at a place.
+pub fn pair_at(s: &[u8], f: Frame, item: usize, h: u32, k: u32) -> PairAnswer
+    ensures { λ r. ⌜ pair-outcome r ≡ pairOf (now (s .entry)) f item h k ⌝ }
+{
+    match code_bodies::kept_at(s, f, item, 0, h, k) {
+        KeptAnswer::Refused(r) => PairAnswer::Refused(r),
+        KeptAnswer::Got {
+            head: _,
+            attempt: _,
+            link: _,
+            handlers,
+            brief,
+            from: _,
+            base: _,
+            end: _,
+        } => {
+            if h < handlers {
+                return pair_in(brief, k);
+            }
+            PairAnswer::Refused(Refusal {
+                number: 7,
+                place: 0,
+            })
+        }
+    }
+}
+
+// Does a try of `count` units from `start` on cover an address.
+fn is_covering(start: u32, count: u16, address: u32) -> bool
+    ensures { λ r. ⌜ r ≡ leb start address && ltb address (start + count) ⌝ }
+{
+    if address < start {
+        return false;
+    }
+    (address as u64) < start as u64 + count as u64
+}
+
+// The first try that covers an address, of those that lie from a place on.
+fn cover_at(s: &[u8], order: Endian, from: usize, count: u16, address: u32) -> Cover
+    requires { ⌜ from + 8 * count ≤ length (now s) ⌝ }
+    ensures { λ r. ⌜ cover-meant r ≡ coverAt order (now (s .entry)) from count address ⌝ }
+{
+    let mut place = from;
+    let mut i: u32 = 0;
+    let mut left = count;
+    while 0 < left {
+        let start = word::u32_at(s, place, order);
+        let units = word::u16_at(s, place + 4, order);
+        if is_covering(start, units, address) {
+            return Cover::Number(i);
+        }
+        place += 8;
+        i += 1;
+        left -= 1;
+    }
+    Cover::Nothing
+}
+
+// The try that covers an address, of the code item at a place.
+pub fn covering_try(s: &[u8], f: Frame, item: usize, address: u32) -> CoverAnswer
+    ensures { λ r. ⌜ cover-outcome r ≡ coveringOf (now (s .entry)) f item address ⌝ }
+{
+    let order = f.order;
+    match code_bodies::kept_at(s, f, item, 0, 0, 0) {
+        KeptAnswer::Refused(r) => CoverAnswer::Refused(r),
+        KeptAnswer::Got {
+            head,
+            attempt: _,
+            link: _,
+            handlers: _,
+            brief: _,
+            from,
+            base: _,
+            end: _,
+        } => CoverAnswer::Got(cover_at(s, order, from, head.tries, address)),
+    }
 }

@@ -28,10 +28,12 @@ use Rattle.code_item.specs.declared.CodeAnswer.the-variants.{Got, Refused}
 use Rattle.code_item.specs.declared.TryAnswer.{TryAnswer}
 use Rattle.code_item.specs.declared.HandlerAnswer.{HandlerAnswer}
 use Rattle.code_item.specs.declared.PairAnswer.{PairAnswer}
-use Rattle.code_item.specs.Rules.{CodeRule}
-use Rattle.code_item.specs.Code.{bodySize, Code, codeAt, outline, outlineAt, Linked, Handed, tryOf, coveringOf, handlerOf, pairOf}
+use Rattle.code_bodies.specs.Rules.{CodeRule}
+use Rattle.code_heads.specs.Heads.{bodySize}
+use Rattle.code_bodies.specs.Code.{Code, codeAt}
+use Rattle.code_item.specs.Code.{outline, outlineAt, Linked, Handed, tryOf, coveringOf, handlerOf, pairOf}
 use Rattle.code_item.specs.Answers.{code-outcome, try-outcome, handler-outcome, pair-outcome}
-use Rattle.code_item.proofs.Exactly.{code-exact}
+use Rattle.code_bodies.proofs.Exactly.{code-exact}
 use Rattle.class_readers.specs.declared.Spot.{Spot}
 use Rattle.class_readers.specs.declared.SpotAnswer.{SpotAnswer}
 use Rattle.class_readers.specs.declared.SpotAnswer.the-variants as S

@@ -10,13 +10,14 @@ use Rattle.header.specs.Header.{section, frame-of}
 use Rattle.handlers.specs.declared.Pair.{Pair}
 use Rattle.code_units.specs.Units.{filled, intoAt, leftAt}
 use Rattle.code_item.specs.declared.Outline.{Outline}
+use Rattle.code_bodies.specs.Code.{Code, codeAt}
 use Rattle.code_item.specs.Code as C
 use Rattle.class_readers.specs.declared.Spot.{Spot}
 use Rattle.class_readers.specs.Spots.{onward, methodSpot}
 
 -- what the bytes say
-unfoldable pub codeIn : List ℕ → Spot → Outcome C.Code
-codeIn f s = C.codeAt (section f (s .header)) (frame-of (s .header) 0) (s .place)
+unfoldable pub codeIn : List ℕ → Spot → Outcome Code
+codeIn f s = codeAt (section f (s .header)) (frame-of (s .header) 0) (s .place)
 
 -- its sizes, counts and places
 unfoldable pub outlineUnder : List ℕ → Spot → Outcome (Option Outline)
@@ -76,7 +77,7 @@ unfoldable pub unitsOf : List ℕ → ℕ → ℕ → ℕ → ℕ → Outcome (O
 unitsOf f c list k room = methodSpot f c list k >>= onward (unitsUnder f room)
 
 -- the output afterwards: "Refusals change no lent byte or unit. Success writes the answer's places and no others."
-unfoldable pub unitsOver : Outcome C.Code → List ℕ → List ℕ
+unfoldable pub unitsOver : Outcome Code → List ℕ → List ℕ
 unitsOver (answer c) out = cond (leb (length (c .units)) (length out)) (filled (c .units) out) out
 unitsOver (refused r) out = out
 

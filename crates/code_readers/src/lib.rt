@@ -1,7 +1,7 @@
 // The readers of code, each over a lent file, by class, list and member (class_readers): the code item whole, then 7 for the number in it; 19 last.
+use code_bodies::Try;
 use code_item::Catch;
 use code_item::Outline;
-use code_item::Try;
 use handlers::Pair;
 use refusal::Refusal;
 

@@ -21,20 +21,22 @@ use Rattle.refusal.specs.Rows.{Found, past}
 use Rattle.refusal.proofs.Laws.{said, bind-answer, bind-refused}
 use Rattle.refusal.proofs.Exact.{equal, at-most, one-of}
 use Rattle.refusal.proofs.Rows.{past-answer, past-refused}
-use Rattle.encoded_value.specs.declared.Walk.{Walk}
+use Rattle.value_heads.specs.declared.Walk.{Walk}
 use Rattle.encoded_value.specs.declared.Step.{Step}
 use Rattle.encoded_value.specs.declared.Step.the-variants as S
-use Rattle.encoded_value.specs.declared.HeadByte.{HeadByte}
-use Rattle.encoded_value.specs.declared.HeadByte.the-variants as H
-use Rattle.encoded_value.specs.declared.Number.{Number}
-use Rattle.encoded_value.specs.declared.Number.the-variants as N
-use Rattle.encoded_value.specs.Kinds.{arguments, bytes-of}
-use Rattle.encoded_value.specs.Numbers.{signed, raised}
+use Rattle.value_heads.specs.declared.HeadByte.{HeadByte}
+use Rattle.value_heads.specs.declared.HeadByte.the-variants as H
+use Rattle.value_heads.specs.declared.Number.{Number}
+use Rattle.value_heads.specs.declared.Number.the-variants as N
+use Rattle.value_heads.specs.Kinds.{arguments, bytes-of}
+use Rattle.value_heads.specs.Numbers.{signed, raised}
 use Rattle.encoded_value.specs.Tree.{Tree, byte, short, char, int, long, float, double, index, null, boolean, restOf, plainOf}
-use Rattle.encoded_value.specs.Readings.{headAt, checkedAt, plainAt, kindWith, arrayAt, annotationAt, as-array, as-annotation}
-use Rattle.encoded_value.specs.Answers.{step-outcome, head-outcome, number-outcome, Small}
-use Rattle.encoded_value.proofs.Numbers.{size-some, size-most}
-use Rattle.encoded_value.proofs.Leaves.{head-there, after-head}
+use Rattle.value_heads.specs.Readings.{headAt, checkedAt}
+use Rattle.encoded_value.specs.Readings.{plainAt, kindWith, arrayAt, annotationAt, as-array, as-annotation}
+use Rattle.value_heads.specs.Answers.{head-outcome, number-outcome, Small}
+use Rattle.encoded_value.specs.Answers.{step-outcome}
+use Rattle.value_heads.proofs.Numbers.{size-some, size-most}
+use Rattle.value_heads.proofs.Laws.{head-there, after-head}
 use Rattle.encoded_value.proofs.Cycle.{value-kind, no-value, kind-array, kind-annotation, kind-plain}
 use Rattle.encoded_value.proofs.Bounds.{array-ends, annotation-ends}
 use Rattle.decoded_value.specs.declared.Decoded.{Decoded}

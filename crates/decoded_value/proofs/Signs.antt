@@ -13,7 +13,7 @@ use borrow.Author.Tests.{lt-ltb, le-ltb}
 use mir.Syntax.{Width, w64}
 use mir.Val.{hbits, SFits, toZ, ofZ}
 use mir.Facts.{toZ-ofZ, toZ-pos}
-use Rattle.encoded_value.specs.Numbers.{signed, raised}
+use Rattle.value_heads.specs.Numbers.{signed, raised}
 use Rattle.decoded_value.specs.Sizes.{Sized}
 
 -- ---- -1 - k

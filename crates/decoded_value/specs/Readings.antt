@@ -3,7 +3,7 @@ use Prim.Native.Nat.{ℕ}
 use mathlib.Core.List.{List}
 use Rattle.refusal.specs.Outcome.{Outcome, answer, refused, _>>=_}
 use Rattle.refusal.specs.Rows.{Found}
-use Rattle.encoded_value.specs.declared.Walk.{Walk}
+use Rattle.value_heads.specs.declared.Walk.{Walk}
 use Rattle.encoded_value.specs.Tree.{Tree}
 use Rattle.encoded_value.specs.Readings.{valueAt, arrayAt, annotationAt, as-array, as-annotation}
 use Rattle.decoded_value.specs.Shown.{Shown, shown, value-shown}

@@ -1,7 +1,7 @@
 -- What is known of a value's number where it is read out.
 use Prim.Native.Nat.{ℕ, _%_, _/_, _*_, _^_, _≤_, _<_}
 use lib.ListN.{getD}
-use Rattle.encoded_value.specs.Kinds.{arguments, bytes-of}
+use Rattle.value_heads.specs.Kinds.{arguments, bytes-of}
 
 -- n bytes, 1 to `most`, and their number
 pub record Sized (most n x : ℕ) : Type 0 where

@@ -1,16 +1,16 @@
 // One value read out: a kind with its number, floats included, or a nested body's offset and length in bytes. No recursion: a nested
 // body is only gone over.
-use encoded_value::HeadByte;
-use encoded_value::Number;
 use encoded_value::Step;
-use encoded_value::Walk;
 use refusal::Refusal;
+use value_heads::HeadByte;
+use value_heads::Number;
+use value_heads::Walk;
 ghost use mathlib.Core.Path.{_≡_};
 ghost use Prim.Native.Nat.{_+_, _*_, _^_, _%_, _/_, _≤_, _<_};
 ghost use lib.ListN.{length};
 ghost use lib.IntN.{pos, negsuc};
 ghost use lib.Ieee.{ofBits, binary32, binary64};
-ghost use Rattle.encoded_value.specs.Numbers.{signed, raised};
+ghost use Rattle.value_heads.specs.Numbers.{signed, raised};
 ghost use Rattle.encoded_value.specs.Tree.{byte, short, int, long, float, double, restOf, plainOf};
 ghost use Rattle.decoded_value.specs.Shown.{shown, value-shown};
 ghost use Rattle.decoded_value.specs.Sizes.{Sized, Fitting};
@@ -234,7 +234,7 @@ fn annotation_at(s: &[u8], w: Walk, at: usize, left: u32) -> Decoded
 pub fn decode_at(s: &[u8], w: Walk, at: usize, left: u32) -> Decoded
     ensures { λ r. ⌜ decoded-outcome r ≡ decodedAt (now (s .entry)) w left at ⌝ }
 {
-    match encoded_value::head_at(s, w.item, at) {
+    match value_heads::head_at(s, w.item, at) {
         HeadByte::Refused(r) => Decoded::Refused(r),
         HeadByte::Got(head) => {
             let code = head % 32;
@@ -244,7 +244,7 @@ pub fn decode_at(s: &[u8], w: Walk, at: usize, left: u32) -> Decoded
             if code == 0x1d {
                 return annotation_at(s, w, at, left);
             }
-            match encoded_value::checked_number(s, w, at + 1, head) {
+            match value_heads::checked_number(s, w, at + 1, head) {
                 Number::Refused(r) => Decoded::Refused(r),
                 Number::Got { value, next } => Decoded::Got {
                     value: plain_of(head, value),

@@ -12,7 +12,7 @@ use Rattle.refusal.proofs.Rows.{past-answer}
 use Rattle.leb128.specs.Rules.{Uleb}
 use Rattle.leb128.proofs.Exactly.{uleb-exact}
 use Rattle.leb128.proofs.Laws.{uleb-span}
-use Rattle.encoded_value.specs.declared.Walk.{Walk}
+use Rattle.value_heads.specs.declared.Walk.{Walk}
 use Rattle.encoded_value.specs.declared.Step.{Step}
 use Rattle.encoded_value.specs.declared.Step.the-variants as S
 use Rattle.encoded_value.specs.Tree.{Tree, Annotation}

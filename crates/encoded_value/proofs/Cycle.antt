@@ -15,15 +15,18 @@ use Rattle.leb128.specs.Leb.{ulebAt}
 use Rattle.leb128.specs.Answers.{leb-outcome}
 use Rattle.leb128.specs.declared.Leb.{Leb}
 use Rattle.leb128.specs.declared.Leb.the-variants as L
-use Rattle.encoded_value.specs.declared.Walk.{Walk}
+use Rattle.value_heads.specs.declared.Walk.{Walk}
+use Rattle.value_heads.specs.Readings.{headAt, indexAt}
+use Rattle.value_heads.specs.Answers.{head-outcome}
+use Rattle.value_heads.proofs.Laws.{after-head}
 use Rattle.encoded_value.specs.declared.Step.{Step}
 use Rattle.encoded_value.specs.declared.Step.the-variants as S
-use Rattle.encoded_value.specs.declared.HeadByte.{HeadByte}
-use Rattle.encoded_value.specs.declared.HeadByte.the-variants as H
+use Rattle.value_heads.specs.declared.HeadByte.{HeadByte}
+use Rattle.value_heads.specs.declared.HeadByte.the-variants as H
 use Rattle.encoded_value.specs.Tree.{Tree, Named, Annotation}
-use Rattle.encoded_value.specs.Readings.{headAt, plainAt, indexAt, startAt, arrayWith, namedWith, annotationWith, as-array, as-annotation, kindWith, valueWith, valueAt, arrayAt, annotationAt, pastValue, pastArray, pastAnnotation, pastNamed, pastPlain}
-use Rattle.encoded_value.specs.Answers.{step-outcome, head-outcome}
-use Rattle.encoded_value.proofs.Leaves.{past-made, after-head}
+use Rattle.encoded_value.specs.Readings.{plainAt, startAt, arrayWith, namedWith, annotationWith, as-array, as-annotation, kindWith, valueWith, valueAt, arrayAt, annotationAt, pastValue, pastArray, pastAnnotation, pastNamed, pastPlain}
+use Rattle.encoded_value.specs.Answers.{step-outcome}
+use Rattle.encoded_value.proofs.Leaves.{past-made}
 
 module _ (s : List ℕ) (w : Walk) where
   -- a value, its bodies and its elements at a remaining depth

@@ -1,4 +1,3 @@
-pub mod Numbers
 pub mod Leaves
 pub mod Cycle
 pub mod Exactly

@@ -6,8 +6,8 @@ use mathlib.Core.Bool.{Bool, true, false, cond, false≢true}
 use mathlib.Core.List.{List}
 use native.Mathlib.Omega.{arith}
 use Rattle.refusal.specs.Exact.{Row, empty, first}
-use Rattle.encoded_value.specs.declared.Walk.{Walk}
-use Rattle.encoded_value.specs.Kinds.{moved, count-of}
+use Rattle.value_heads.specs.declared.Walk.{Walk}
+use Rattle.value_heads.specs.Kinds.{moved, count-of}
 use Rattle.encoded_value.specs.Tree.{Tree, Trees, Elements, Annotation, byte, short, char, int, long, float, double, index, null, boolean, array, annotation, trees, elements-of, restOf, plainOf}
 use Rattle.encoded_value.specs.Rules.{Plain, ArrayWith, NamedWith, AnnotationWith, KindWith, an-array, an-annotation, no-body, ValueWith, Value, ArrayBody, AnnotationBody}
 use Rattle.encoded_value.proofs.Bounds.{Gives}

@@ -1,25 +1,8 @@
 -- What the answers of the code say.
-use Prim.Native.Nat.{ℕ, _*_, _^_, _<_}
-use mathlib.Core.Path.{_≡_}
+use Prim.Native.Nat.{ℕ}
 use Rattle.refusal.specs.Outcome.{Outcome, answer, refused}
-use Rattle.refusal.specs.Rows.{Found}
-use Rattle.encoded_value.specs.Kinds.{bytes-of}
 use Rattle.encoded_value.specs.declared.Step as S
-use Rattle.encoded_value.specs.declared.HeadByte as H
-use Rattle.encoded_value.specs.declared.Number as N
 
 abbrev pub step-outcome : S.Step → Outcome ℕ
 step-outcome (S.the-variants.Next p) = answer p
 step-outcome (S.the-variants.Refused r) = refused r
-
-abbrev pub head-outcome : H.HeadByte → Outcome ℕ
-head-outcome (H.the-variants.Got h) = answer h
-head-outcome (H.the-variants.Refused r) = refused r
-
-abbrev pub number-outcome : N.Number → Outcome (Found ℕ ℕ)
-number-outcome (N.the-variants.Got v n) = answer (record { item = v; next = n })
-number-outcome (N.the-variants.Refused r) = refused r
-
--- a number is no larger than its bytes allow
-pub record Small (head : ℕ) (x : N.Number) : Type 0 where
-  pub small : {v n : ℕ} → x ≡ N.the-variants.Got v n → v < 2 ^ (8 * bytes-of head)

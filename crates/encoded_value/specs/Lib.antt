@@ -1,5 +1,3 @@
-pub mod Kinds
-pub mod Numbers
 pub mod Tree
 pub mod Readings
 pub mod Rules

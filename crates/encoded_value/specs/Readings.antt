@@ -2,30 +2,13 @@
 use Prim.Native.Nat.{ℕ, zero, suc, _+_, _%_, _/_}
 use mathlib.Core.Bool.{cond}
 use mathlib.Core.List.{List}
-use lib.ListN.{length, getD}
-use lib.Dec.{ltb, leb, eqb}
-use Rattle.refusal.specs.Outcome.{Outcome, answer, refused, _>>=_, given}
+use lib.Dec.{eqb}
+use Rattle.refusal.specs.Outcome.{Outcome, answer, refused, _>>=_}
 use Rattle.refusal.specs.Rows.{Found, past, collect}
-use Rattle.word.specs.Bytes.{stretch}
 use Rattle.leb128.specs.Leb.{ulebAt}
-use Rattle.encoded_value.specs.declared.Walk.{Walk}
-use Rattle.encoded_value.specs.Kinds.{allowed-head, bytes-of, in-range}
-use Rattle.encoded_value.specs.Numbers.{little}
+use Rattle.value_heads.specs.declared.Walk.{Walk}
+use Rattle.value_heads.specs.Readings.{headAt, numberAt, checkedAt, indexAt}
 use Rattle.encoded_value.specs.Tree.{Named, Annotation, Tree, array, annotation, trees, elements-of, plainOf}
-
--- the head byte of a value: 9 where it is missing, 12 where it is not allowed
-unfoldable pub headAt : List ℕ → ℕ → ℕ → Outcome ℕ
-headAt s item p = given (ltb p (length s)) 9 item (given (allowed-head (getD s p 0)) 12 item (answer (getD s p 0)))
-
--- the number of n bytes
-unfoldable pub numberAt : List ℕ → ℕ → ℕ → ℕ → Outcome (Found ℕ ℕ)
-numberAt s item p n = given (leb (p + n) (length s)) 9 item (answer (record { item = little (stretch s p n); next = p + n }))
-
--- a LEB128 number that is an index below a count
-unfoldable pub indexAt : List ℕ → ℕ → ℕ → ℕ → Outcome (Found ℕ ℕ)
-indexAt s item count p = do
-  n ← ulebAt s item p
-  given (ltb (n .item) count) 11 item (answer n)
 
 -- a body as a value, with its place and its end
 abbrev pub as-array : ℕ → Found (List Tree) ℕ → Outcome (Found Tree ℕ)
@@ -35,15 +18,10 @@ abbrev pub as-annotation : ℕ → Found Annotation ℕ → Outcome (Found Tree 
 as-annotation p r = answer (record { item = annotation p (r .next) (r .item .type-index) (elements-of (r .item .elements)); next = r .next })
 
 module _ (s : List ℕ) (w : Walk) where
-  -- the number of a value that is no body, behind its head byte h: "then the bytes (9); then the index (11)"
-  unfoldable pub checkedAt : ℕ → ℕ → Outcome (Found ℕ ℕ)
-  checkedAt h p = do
-    n ← numberAt s (w .item) p (bytes-of h)
-    given (in-range w (h % 32) (n .item)) 11 (w .item) (answer n)
-
+  -- a value that is no body, behind its head byte h
   unfoldable pub plainAt : ℕ → ℕ → Outcome (Found Tree ℕ)
   plainAt h p = do
-    n ← checkedAt h p
+    n ← checkedAt s w h p
     answer (record { item = plainOf (h % 32) (h / 32) (n .item); next = n .next })
 
   -- "An array holds values": its size, and the values

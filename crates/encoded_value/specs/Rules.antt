@@ -2,32 +2,13 @@
 use Prim.Native.Nat.{ℕ, zero, suc, _+_, _%_, _/_, _≤_, _<_}
 use mathlib.Core.Path.{_≡_}
 use mathlib.Core.List.{List}
-use lib.ListN.{length, getD}
 use Rattle.refusal.specs.Rows.{Found}
 use Rattle.refusal.specs.Exact.{Row}
-use Rattle.word.specs.Bytes.{Stands}
 use Rattle.leb128.specs.Rules.{Uleb}
-use Rattle.encoded_value.specs.declared.Walk.{Walk}
-use Rattle.encoded_value.specs.Kinds.{arguments, bytes-of, count-of}
-use Rattle.encoded_value.specs.Numbers.{little}
+use Rattle.value_heads.specs.declared.Walk.{Walk}
+use Rattle.value_heads.specs.Kinds.{bytes-of, count-of}
+use Rattle.value_heads.specs.Rules.{Head, Number, Index}
 use Rattle.encoded_value.specs.Tree.{Named, Annotation, Tree, array, annotation, trees, elements-of, plainOf}
-
--- an allowed head byte
-pub record Head (s : List ℕ) (p h : ℕ) : Type 0 where
-  pub room : p < length s
-  pub byte : getD s p 0 ≡ h
-  pub known : h / 32 < getD arguments (h % 32) 0
-
--- n bytes and their number
-pub record Number (s : List ℕ) (p n : ℕ) (r : Found ℕ ℕ) : Type 0 where
-  pub bs : List ℕ
-  pub stands : Stands s p bs (r .next)
-  pub size : length bs ≡ n
-  pub value : little bs ≡ r .item
-
-pub record Index (s : List ℕ) (count p : ℕ) (r : Found ℕ ℕ) : Type 0 where
-  pub uleb : Uleb s p r
-  pub range : r .item < count
 
 module _ (s : List ℕ) (w : Walk) where
   -- a value that is no body, behind its head byte h

@@ -4,7 +4,7 @@ use mathlib.Core.Bool.{Bool, cond}
 use mathlib.Core.List.{List, [], _∷_}
 use lib.Dec.{eqb}
 use lib.IntN.{ℤ}
-use Rattle.encoded_value.specs.Numbers.{signed, raised}
+use Rattle.value_heads.specs.Numbers.{signed, raised}
 
 mutual
   pub data Tree : Type 0 where

@@ -10,11 +10,12 @@ use Rattle.refusal.specs.Outcome.{Outcome, answer, refused, _>>=_, given}
 use Rattle.refusal.specs.Rows.{Found, collect}
 use Rattle.word.specs.Bytes.{stretch}
 use Rattle.leb128.specs.Leb.{bytesAt, weight, scale, signed, ulebAt, slebAt}
-use Rattle.encoded_value.specs.declared.Walk.{Walk}
-use Rattle.encoded_value.specs.Kinds.{arguments, allowed-head, bytes-of, is-index, in-range}
-use Rattle.encoded_value.specs.Numbers as N
+use Rattle.value_heads.specs.declared.Walk.{Walk}
+use Rattle.value_heads.specs.Kinds.{arguments, allowed-head, bytes-of, is-index, in-range}
+use Rattle.value_heads.specs.Numbers as N
 use Rattle.encoded_value.specs.Tree.{restOf, plainOf}
-use Rattle.encoded_value.specs.Readings.{headAt, numberAt, checkedAt, plainAt, kindWith, valueWith, valueAt}
+use Rattle.value_heads.specs.Readings.{headAt, numberAt, checkedAt}
+use Rattle.encoded_value.specs.Readings.{plainAt, kindWith, valueWith, valueAt}
 use Rattle.decoded_value.specs.Shown.{Shown, is, integer, natural, floating}
 use Rattle.decoded_value.specs.Readings.{decodedAt}
 use Rattle.class_data.specs.declared.Member.{Member}

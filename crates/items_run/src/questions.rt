@@ -96,7 +96,7 @@ fn row_of(s: &[u8], kind: u8, f: Frame, n: Numbers) -> [u64; 20] {
         return values::row(
             s,
             kind,
-            encoded_value::walk_of(f, n.b as usize),
+            value_heads::walk_of(f, n.b as usize),
             n.a as usize,
             n.c,
         );

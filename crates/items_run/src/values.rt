@@ -3,9 +3,9 @@ use super::numbers;
 use decoded_value::Decoded;
 use decoded_value::Value;
 use encoded_value::Step;
-use encoded_value::Walk;
 use value_bodies::Head;
 use value_bodies::Picked;
+use value_heads::Walk;
 
 fn single(value: f32) -> u64 {
     if value != value {

@@ -16,7 +16,7 @@ use Rattle.class_data.specs.declared.Member.{Member}
 use Rattle.class_data.specs.Data.{listOf}
 use Rattle.value_bodies.specs.Bodies.{pick}
 use Rattle.value_bodies.proofs.Picks.{pick-there}
-use Rattle.code_item.specs.Code.{Code}
+use Rattle.code_bodies.specs.Code.{Code}
 use Rattle.debug_info.specs.Debug.{Debug}
 use Rattle.class_readers.specs.Spots.{onward}
 use Rattle.class_walk.specs.Methods.{Body, DataBelow}

@@ -23,8 +23,8 @@ use Rattle.class_data.specs.Rules.{ListRule}
 use Rattle.handlers.specs.declared.Pair.{Pair}
 use Rattle.handlers.specs.Handlers.{Handler, HandlerList}
 use Rattle.handlers.specs.Rules.{HandlersRule}
-use Rattle.code_item.specs.Code.{Code, judge-of}
-use Rattle.code_item.specs.Rules.{CodeRule}
+use Rattle.code_bodies.specs.Code.{Code, judge-of}
+use Rattle.code_bodies.specs.Rules.{CodeRule}
 use Rattle.debug_info.specs.Debug.{Debug}
 use Rattle.debug_info.specs.Rules.{Named}
 use Rattle.class_walk.specs.Methods.{Body, DataBelow}

@@ -27,11 +27,13 @@ use Rattle.class_data.specs.Rules.{DataRule}
 use Rattle.class_data.proofs.Exactly.{data-exact}
 use Rattle.handlers.specs.Handlers.{Handler, nothing, nobody}
 use Rattle.code_item.specs.declared.Outline.{Outline}
-use Rattle.code_item.specs.declared.Try.{Try}
-use Rattle.code_item.specs.Tries.{covers, no-try}
-use Rattle.code_item.specs.Code.{Code, codeAt, outlineAt, coveringOf, tryOf, handed, handlerOf, pairOf}
-use Rattle.code_item.specs.Rules.{CodeRule}
-use Rattle.code_item.proofs.Exactly.{code-exact}
+use Rattle.code_bodies.specs.declared.Try.{Try}
+use Rattle.code_bodies.specs.Tries.{no-try}
+use Rattle.code_item.specs.Covering.{covers}
+use Rattle.code_bodies.specs.Code.{Code, codeAt}
+use Rattle.code_item.specs.Code.{outlineAt, coveringOf, tryOf, handed, handlerOf, pairOf}
+use Rattle.code_bodies.specs.Rules.{CodeRule}
+use Rattle.code_bodies.proofs.Exactly.{code-exact}
 use Rattle.code_item.proofs.Covering.{covering-sought, covering-once}
 use Rattle.debug_info.specs.Debug.{Debug, extentAt as debugExtent, nameOf}
 use Rattle.debug_info.specs.Rules.{DebugRule}

@@ -10,8 +10,8 @@ use Rattle.refusal.specs.Outcome.{Outcome, answer, refused, _>>=_}
 use Rattle.refusal.specs.Exact.{here, there, Alike}
 use Rattle.header.specs.Header.{section, frame-of}
 use Rattle.value_bodies.specs.Bodies.{pick}
-use Rattle.code_item.specs.Code.{Code}
-use Rattle.code_item.specs.Rules.{CodeRule}
+use Rattle.code_bodies.specs.Code.{Code}
+use Rattle.code_bodies.specs.Rules.{CodeRule}
 use Rattle.class_data.specs.declared.Member.{Member}
 use Rattle.class_readers.specs.Spots.{onward}
 use Rattle.class_walk.specs.Methods.{Body, DataBelow}

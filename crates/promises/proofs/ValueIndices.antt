@@ -13,8 +13,8 @@ use Rattle.refusal.specs.Exact.{absent, found-there, Each, At}
 use Rattle.refusal.proofs.Exact.{both, below, at-most}
 use Rattle.refusal.proofs.Each.{at-below, at-some}
 use Rattle.header.specs.Header.{section, frame-of}
-use Rattle.encoded_value.specs.declared.Walk.{Walk}
-use Rattle.encoded_value.specs.Kinds.{arguments, count-of}
+use Rattle.value_heads.specs.declared.Walk.{Walk}
+use Rattle.value_heads.specs.Kinds.{arguments, count-of}
 use Rattle.encoded_value.specs.Tree.{Named, Annotation, Tree, byte, short, char, int, long, float, double, index, null, boolean, array, annotation, restOf, plainOf}
 use Rattle.encoded_value.specs.Rules.{KindWith, an-array, an-annotation, no-body, Value, AnnotationBody}
 use Rattle.encoded_value.proofs.Bounds.{named-with-extent, value-extent}

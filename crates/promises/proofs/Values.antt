@@ -15,8 +15,8 @@ use Rattle.refusal.proofs.Laws.{bind-answer, picks, leaves}
 use Rattle.refusal.proofs.Each.{at-below}
 use Rattle.frame.specs.Offsets.{Allowed, AllowedOrAbsent}
 use Rattle.header.specs.Header.{section, frame-of}
-use Rattle.encoded_value.specs.declared.Walk.{Walk}
-use Rattle.encoded_value.specs.Kinds.{walkOf}
+use Rattle.value_heads.specs.declared.Walk.{Walk}
+use Rattle.value_heads.specs.Kinds.{walkOf}
 use Rattle.encoded_value.specs.Tree.{Named, Annotation, Tree, array, annotation, Trees, no-tree, tree, Elements, no-element, element, trees, elements-of}
 use Rattle.encoded_value.specs.Readings.{arrayAt, annotationAt}
 use Rattle.encoded_value.specs.Rules.{Value, ArrayBody, AnnotationBody}

@@ -17,7 +17,7 @@ use Rattle.class_data.specs.declared.Member as M
 use Rattle.class_data.specs.Data.{listOf}
 use Rattle.handlers.specs.declared.Pair.{Pair}
 use Rattle.handlers.specs.Handlers.{Handler}
-use Rattle.code_item.specs.declared.Try.{Try}
+use Rattle.code_bodies.specs.declared.Try.{Try}
 use Rattle.code_item.specs.Code.{outline, handed}
 use Rattle.debug_info.specs.Debug.{Debug}
 use Rattle.encoded_value.specs.Tree.{Named, Tree, array, annotation, trees, elements-of}

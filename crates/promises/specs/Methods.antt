@@ -15,9 +15,10 @@ use Rattle.value_bodies.specs.Bodies.{pick}
 use Rattle.class_data.specs.declared.Member.{Member}
 use Rattle.class_data.specs.Data.{counts, one-of-four, listOf}
 use Rattle.code_units.specs.Units.{filled}
-use Rattle.code_item.specs.declared.Try.{Try}
-use Rattle.code_item.specs.Tries.{covers}
-use Rattle.code_item.specs.Code.{Code, outline, Linked, handed}
+use Rattle.code_bodies.specs.declared.Try.{Try}
+use Rattle.code_item.specs.Covering.{covers}
+use Rattle.code_bodies.specs.Code.{Code}
+use Rattle.code_item.specs.Code.{outline, Linked, handed}
 use Rattle.debug_info.specs.Debug.{Debug, Extent}
 use Rattle.class_readers.specs.Spots.{onward}
 use Rattle.class_readers.specs.Members.{classData, memberNumber, memberFlags, contentOf, memberContent}

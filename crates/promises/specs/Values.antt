@@ -7,7 +7,7 @@ use lib.ListN.{length}
 use Rattle.refusal.specs.Outcome.{answer}
 use Rattle.refusal.specs.Exact.{At}
 use Rattle.header.specs.Header.{section, frame-of}
-use Rattle.encoded_value.specs.Kinds.{walkOf}
+use Rattle.value_heads.specs.Kinds.{walkOf}
 use Rattle.encoded_value.specs.Tree.{Named, Tree, array, annotation, trees, elements-of}
 use Rattle.encoded_value.specs.Rules.{ArrayBody}
 use Rattle.decoded_value.specs.Shown.{shown}

@@ -8,7 +8,7 @@ use Rattle.refusal.specs.Outcome.{answer, refused}
 use Rattle.refusal.specs.Exact.{At}
 use Rattle.refusal.proofs.Laws.{bind-answer, bind-refused}
 use Rattle.refusal.proofs.Each.{at-some}
-use Rattle.encoded_value.specs.declared.Walk.{Walk}
+use Rattle.value_heads.specs.declared.Walk.{Walk}
 use Rattle.encoded_value.specs.Tree.{Tree, Named, Annotation}
 use Rattle.encoded_value.specs.Readings.{arrayAt, annotationAt}
 use Rattle.encoded_value.specs.Rules.{ArrayBody, AnnotationBody}

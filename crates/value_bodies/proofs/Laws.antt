@@ -18,16 +18,18 @@ use Rattle.leb128.specs.declared.Leb.{Leb}
 use Rattle.leb128.specs.declared.Leb.the-variants as L
 use Rattle.leb128.proofs.Exactly.{uleb-exact}
 use Rattle.leb128.proofs.Laws.{on-leb}
-use Rattle.encoded_value.specs.declared.Walk.{Walk}
+use Rattle.value_heads.specs.declared.Walk.{Walk}
 use Rattle.encoded_value.specs.declared.Step.{Step}
 use Rattle.encoded_value.specs.declared.Step.the-variants as S
 use Rattle.encoded_value.specs.Tree.{Tree, Named, Annotation}
-use Rattle.encoded_value.specs.Readings.{indexAt, startAt, namedWith, valueAt, arrayAt, annotationAt, pastArray, pastAnnotation, pastValue, pastNamed}
+use Rattle.value_heads.specs.Readings.{indexAt}
+use Rattle.encoded_value.specs.Readings.{startAt, namedWith, valueAt, arrayAt, annotationAt, pastArray, pastAnnotation, pastValue, pastNamed}
 use Rattle.encoded_value.specs.Rules.{ArrayWith, AnnotationWith, Value, ArrayBody, AnnotationBody}
 use Rattle.encoded_value.specs.Answers.{step-outcome}
 use Rattle.encoded_value.proofs.Leaves.{on-step}
 use Rattle.encoded_value.proofs.Cycle.{turn-next, turn-stop, name-stop, named-next, named-stop}
-use Rattle.encoded_value.proofs.Exactly.{index-exact, value-exact, named-with-exact, array-exact, annotation-exact}
+use Rattle.value_heads.proofs.Exactly.{index-exact}
+use Rattle.encoded_value.proofs.Exactly.{value-exact, named-with-exact, array-exact, annotation-exact}
 use Rattle.decoded_value.specs.Shown.{Shown, shown}
 use Rattle.decoded_value.specs.Readings.{read-out, decodedAt}
 use Rattle.decoded_value.proofs.Laws.{on-decoded}

@@ -4,8 +4,9 @@ use mathlib.Core.List.{List, [], _∷_}
 use lib.ListN.{length}
 use Rattle.refusal.specs.Outcome.{Outcome, answer, refused, _>>=_}
 use Rattle.refusal.specs.Rows.{repeat}
-use Rattle.encoded_value.specs.declared.Walk.{Walk}
-use Rattle.encoded_value.specs.Readings.{indexAt, arrayAt, annotationAt, pastValue, pastNamed}
+use Rattle.value_heads.specs.declared.Walk.{Walk}
+use Rattle.value_heads.specs.Readings.{indexAt}
+use Rattle.encoded_value.specs.Readings.{arrayAt, annotationAt, pastValue, pastNamed}
 use Rattle.decoded_value.specs.Shown.{Shown, shown}
 use Rattle.decoded_value.specs.Readings.{decodedAt}
 

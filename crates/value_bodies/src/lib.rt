@@ -2,9 +2,9 @@
 use decoded_value::Decoded;
 use decoded_value::Value;
 use encoded_value::Step;
-use encoded_value::Walk;
 use leb128::Leb;
 use refusal::Refusal;
+use value_heads::Walk;
 ghost use mathlib.Core.Path.{_≡_};
 ghost use Rattle.encoded_value.specs.Answers.{step-outcome};
 ghost use Rattle.value_bodies.specs.Bodies.{arrayCount, arrayValue, annotationNoted, annotationElement};
@@ -105,7 +105,7 @@ pub fn annotation_head(s: &[u8], w: Walk, at: usize) -> Head
 {
     match encoded_value::top_annotation(s, w, at) {
         Step::Refused(r) => Head::Refused(r),
-        Step::Next(_) => match encoded_value::index_at(s, w.item, w.types, at) {
+        Step::Next(_) => match value_heads::index_at(s, w.item, w.types, at) {
             Leb::Refused(r) => Head::Refused(r),
             Leb::Got {
                 value: type_index,
@@ -128,7 +128,7 @@ fn elements_past(s: &[u8], w: Walk, from: usize, k: u32) -> Step
     let mut p = from;
     let mut left = k;
     while 0 < left {
-        match encoded_value::index_at(s, w.item, w.strings, p) {
+        match value_heads::index_at(s, w.item, w.strings, p) {
             Leb::Refused(r) => {
                 return Step::Refused(r);
             }
@@ -150,7 +150,7 @@ fn elements_past(s: &[u8], w: Walk, from: usize, k: u32) -> Step
 fn element_at(s: &[u8], w: Walk, at: usize) -> Element
     ensures { λ r. ⌜ element-outcome r ≡ elementThere (now (s .entry)) w at ⌝ }
 {
-    match encoded_value::index_at(s, w.item, w.strings, at) {
+    match value_heads::index_at(s, w.item, w.strings, at) {
         Leb::Refused(r) => Element::Refused(r),
         Leb::Got { value: name, next } => match decoded_value::decode_at(s, w, next, 63) {
             Decoded::Refused(r) => Element::Refused(r),

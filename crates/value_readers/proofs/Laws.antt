@@ -12,8 +12,8 @@ use Rattle.header.specs.declared.Header.{Header}
 use Rattle.header.specs.Header.{section, frame-of}
 use Rattle.table_readers.proofs.HeadLaws.{on-opened}
 use Rattle.class_ids.proofs.Laws.{laws as class-laws}
-use Rattle.encoded_value.specs.declared.Walk.{Walk}
-use Rattle.encoded_value.specs.Kinds.{walkOf}
+use Rattle.value_heads.specs.declared.Walk.{Walk}
+use Rattle.value_heads.specs.Kinds.{walkOf}
 use Rattle.encoded_value.specs.Readings.{pastArray, pastAnnotation}
 use Rattle.encoded_value.specs.Answers.{step-outcome}
 use Rattle.encoded_value.specs.declared.Step.{Step}

@@ -3,7 +3,7 @@ use Prim.Native.Nat.{ℕ, _-_}
 use mathlib.Core.List.{List}
 use Rattle.refusal.specs.Outcome.{Outcome, answer, _>>=_}
 use Rattle.header.specs.Header.{section}
-use Rattle.encoded_value.specs.declared.Walk.{Walk}
+use Rattle.value_heads.specs.declared.Walk.{Walk}
 use Rattle.encoded_value.specs.Readings.{pastArray, pastAnnotation}
 use Rattle.decoded_value.specs.Shown.{Shown}
 use Rattle.value_bodies.specs.Bodies.{ShownElement, arrayCount, arrayValue, annotationNoted, annotationElement}

@@ -6,8 +6,8 @@ use Rattle.refusal.specs.Outcome.{Outcome, answer, _>>=_, given}
 use Rattle.frame.specs.Offsets.{allowed}
 use Rattle.header.specs.declared.Header.{Header}
 use Rattle.header.specs.Header.{frame-of}
-use Rattle.encoded_value.specs.declared.Walk.{Walk}
-use Rattle.encoded_value.specs.Kinds.{walkOf}
+use Rattle.value_heads.specs.declared.Walk.{Walk}
+use Rattle.value_heads.specs.Kinds.{walkOf}
 use Rattle.table_readers.specs.declared.Opened.{Opened}
 use Rattle.table_readers.specs.Head.{openedAt}
 

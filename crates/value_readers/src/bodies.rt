@@ -2,12 +2,12 @@
 use super::ArrayAnswer;
 use super::BodyAnswer;
 use encoded_value::Step;
-use encoded_value::Walk;
 use table_readers::OpenedAnswer;
 use value_bodies::Count;
 use value_bodies::Element;
 use value_bodies::Head;
 use value_bodies::Picked;
+use value_heads::Walk;
 ghost use mathlib.Core.Path.{_≡_};
 ghost use Rattle.value_bodies.specs.Answers.{picked-outcome, element-outcome};
 ghost use Rattle.value_readers.specs.Bodies.{arrayBody, notedBody, arrayOf, arrayValueOf, bodyOf, elementOf};

@@ -1,8 +1,8 @@
 // What the readers begin with: the file opened for a place, and what an item that holds values is read against.
-use encoded_value::Walk;
 use header::Header;
 use refusal::Refusal;
 use table_readers::OpenedAnswer;
+use value_heads::Walk;
 ghost use mathlib.Core.Path.{_≡_};
 ghost use Rattle.table_readers.specs.Answers.{opened-outcome};
 ghost use Rattle.value_readers.specs.Opening.{walk-in, openedWithin};
@@ -30,5 +30,5 @@ pub fn open_within(f: &[u8], place: usize) -> OpenedAnswer
 pub fn walk_in(h: Header, handles: u32, item: usize) -> Walk
     ensures { λ r. ⌜ r ≡ walk-in h handles item ⌝ }
 {
-    encoded_value::walk_of(header::frame_of(h, handles), item)
+    value_heads::walk_of(header::frame_of(h, handles), item)
 }

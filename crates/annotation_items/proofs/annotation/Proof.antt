@@ -4,7 +4,7 @@ use Rattle.annotation_items.proofs.annotation.Tie as tie
 use Rattle.annotation_items.proofs.annotation.Reads as reads
 use Rattle.annotation_items.proofs.annotation.Lts as lts
 use Rattle.annotation_items.proofs.visibility_at.Reads as visibility-at-reads
-use Rattle.encoded_value.proofs.walk_of.Reads as walk-of-reads
+use Rattle.value_heads.proofs.walk_of.Reads as walk-of-reads
 use Rattle.value_bodies.proofs.annotation_head.Reads as annotation-head-reads
 
 visibility-at-requires : tie.Need-visibility-at-requires

@@ -5,7 +5,7 @@ use Rattle.annotation_items.proofs.annotation_item.Reads as reads
 use Rattle.annotation_items.proofs.annotation_item.Lts as lts
 use Rattle.annotation_items.proofs.visibility_at.Reads as visibility-at-reads
 use Rattle.encoded_value.proofs.top_annotation.Reads as top-annotation-reads
-use Rattle.encoded_value.proofs.walk_of.Reads as walk-of-reads
+use Rattle.value_heads.proofs.walk_of.Reads as walk-of-reads
 
 visibility-at-requires : tie.Need-visibility-at-requires
 visibility-at-requires c κs = search laws depth 7

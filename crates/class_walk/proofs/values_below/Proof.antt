@@ -5,7 +5,7 @@ use Rattle.class_walk.proofs.values_below.Tie as tie
 use Rattle.class_walk.proofs.values_below.Reads as reads
 use Rattle.class_walk.proofs.values_below.Lts as lts
 use Rattle.encoded_value.proofs.top_array.Reads as top-array-reads
-use Rattle.encoded_value.proofs.walk_of.Reads as walk-of-reads
+use Rattle.value_heads.proofs.walk_of.Reads as walk-of-reads
 use Rattle.header.proofs.frame_of.Reads as frame-of-reads
 use Rattle.header.proofs.section_of.Reads as section-of-reads
 

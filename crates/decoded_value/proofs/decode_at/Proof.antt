@@ -6,8 +6,8 @@ use Rattle.decoded_value.proofs.decode_at.Lts as lts
 use Rattle.decoded_value.proofs.annotation_at.Reads as annotation-at-reads
 use Rattle.decoded_value.proofs.array_at.Reads as array-at-reads
 use Rattle.decoded_value.proofs.plain_of.Reads as plain-of-reads
-use Rattle.encoded_value.proofs.checked_number.Reads as checked-number-reads
-use Rattle.encoded_value.proofs.head_at.Reads as head-at-reads
+use Rattle.value_heads.proofs.checked_number.Reads as checked-number-reads
+use Rattle.value_heads.proofs.head_at.Reads as head-at-reads
 
 -- src/lib.rt:237:11
 head-at-requires : tie.Need-head-at-requires

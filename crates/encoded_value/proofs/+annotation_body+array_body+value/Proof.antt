@@ -14,8 +14,8 @@ use Rattle.encoded_value.proofs.value.Reads as value
 use Rattle.encoded_value.proofs.value.Kinds as value-kinds
 use Rattle.encoded_value.proofs.+annotation_body+array_body+value.Lts-value as value-lts
 use Rattle.encoded_value.proofs.annotation_start.Reads as annotation-start-reads
-use Rattle.encoded_value.proofs.head_at.Reads as head-at-reads
-use Rattle.encoded_value.proofs.index_at.Reads as index-at-reads
+use Rattle.value_heads.proofs.head_at.Reads as head-at-reads
+use Rattle.value_heads.proofs.index_at.Reads as index-at-reads
 use Rattle.encoded_value.proofs.plain_past.Reads as plain-past-reads
 use Rattle.leb128.proofs.uleb.Reads as uleb-reads
 use Rattle.encoded_value.proofs.+annotation_body+array_body+value.{statement}

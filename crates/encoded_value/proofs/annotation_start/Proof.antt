@@ -1,10 +1,10 @@
-use Rattle.encoded_value.proofs.Leaves.{plain-laws as laws}
+use Rattle.encoded_value.proofs.Leaves.{start-laws as laws}
 use Rattle.encoded_value.specs.Readings.{startAt}
 use Rattle.encoded_value.proofs.annotation_start.Statement.{statement}
 use Rattle.encoded_value.proofs.annotation_start.Tie as tie
 use Rattle.encoded_value.proofs.annotation_start.Reads as reads
 use Rattle.encoded_value.proofs.annotation_start.Lts as lts
-use Rattle.encoded_value.proofs.index_at.Reads as index-at-reads
+use Rattle.value_heads.proofs.index_at.Reads as index-at-reads
 use Rattle.leb128.proofs.uleb.Reads as uleb-reads
 
 -- src/lib.rt:303:11

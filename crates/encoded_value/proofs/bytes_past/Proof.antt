@@ -1,10 +1,10 @@
-use Rattle.encoded_value.proofs.Leaves.{number-laws as laws}
+use Rattle.encoded_value.proofs.Leaves.{bytes-laws as laws}
 use Rattle.encoded_value.proofs.bytes_past.Statement.{statement}
 use Rattle.encoded_value.proofs.bytes_past.Tie as tie
 use Rattle.encoded_value.proofs.bytes_past.Reads as reads
 use Rattle.encoded_value.proofs.bytes_past.Lts as lts
-use Rattle.encoded_value.proofs.has_room.Reads as has-room-reads
-use Rattle.encoded_value.proofs.size_of.Reads as size-of-reads
+use Rattle.value_heads.proofs.has_room.Reads as has-room-reads
+use Rattle.value_heads.proofs.size_of.Reads as size-of-reads
 
 -- src/lib.rt:204:9
 size-of-requires : tie.Need-size-of-requires

@@ -4,8 +4,8 @@ use Rattle.encoded_value.proofs.plain_past.Tie as tie
 use Rattle.encoded_value.proofs.plain_past.Reads as reads
 use Rattle.encoded_value.proofs.plain_past.Lts as lts
 use Rattle.encoded_value.proofs.bytes_past.Reads as bytes-past-reads
-use Rattle.encoded_value.proofs.checked_number.Reads as checked-number-reads
-use Rattle.encoded_value.proofs.is_index_code.Reads as is-index-code-reads
+use Rattle.value_heads.proofs.checked_number.Reads as checked-number-reads
+use Rattle.value_heads.proofs.is_index_code.Reads as is-index-code-reads
 
 -- src/lib.rt:218:8
 is-index-code-requires : tie.Need-is-index-code-requires

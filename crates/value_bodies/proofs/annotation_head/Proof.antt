@@ -4,7 +4,7 @@ use Rattle.value_bodies.proofs.annotation_head.Tie as tie
 use Rattle.value_bodies.proofs.annotation_head.Reads as reads
 use Rattle.value_bodies.proofs.annotation_head.Lts as lts
 use Rattle.encoded_value.proofs.top_annotation.Reads as top-annotation-reads
-use Rattle.encoded_value.proofs.index_at.Reads as index-at-reads
+use Rattle.value_heads.proofs.index_at.Reads as index-at-reads
 use Rattle.leb128.proofs.uleb.Reads as uleb-reads
 
 -- src/lib.rt:106:11

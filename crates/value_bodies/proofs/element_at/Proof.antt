@@ -5,7 +5,7 @@ use Rattle.value_bodies.proofs.element_at.Tie as tie
 use Rattle.value_bodies.proofs.element_at.Reads as reads
 use Rattle.value_bodies.proofs.element_at.Lts as lts
 use Rattle.decoded_value.proofs.decode_at.Reads as decode-at-reads
-use Rattle.encoded_value.proofs.index_at.Reads as index-at-reads
+use Rattle.value_heads.proofs.index_at.Reads as index-at-reads
 
 -- src/lib.rt:153:11
 index-at-requires : tie.Need-index-at-requires

@@ -6,7 +6,7 @@ use Rattle.value_bodies.proofs.elements_past.Statement.{statement}
 use Rattle.value_bodies.proofs.elements_past.Tie as tie
 use Rattle.value_bodies.proofs.elements_past.Reads as reads
 use Rattle.value_bodies.proofs.elements_past.Lts as lts
-use Rattle.encoded_value.proofs.index_at.Reads as index-at-reads
+use Rattle.value_heads.proofs.index_at.Reads as index-at-reads
 use Rattle.encoded_value.proofs.value.Reads as value-reads
 
 abbrev Inv-loop : tie.InvT-loop

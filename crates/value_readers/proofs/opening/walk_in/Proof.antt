@@ -3,7 +3,7 @@ use Rattle.value_readers.proofs.opening.walk_in.Statement.{statement}
 use Rattle.value_readers.proofs.opening.walk_in.Tie as tie
 use Rattle.value_readers.proofs.opening.walk_in.Reads as reads
 use Rattle.value_readers.proofs.opening.walk_in.Lts as lts
-use Rattle.encoded_value.proofs.walk_of.Reads as walk-of-reads
+use Rattle.value_heads.proofs.walk_of.Reads as walk-of-reads
 use Rattle.header.proofs.frame_of.Reads as frame-of-reads
 
 frame-of-requires : tie.Need-frame-of-requires

@@ -1,0 +1,4 @@
+pub mod Exactly
+pub mod Laws
+pub mod Stages
+pub mod Once

@@ -1,0 +1,4 @@
+pub mod Tries
+pub mod Code
+pub mod Rules
+pub mod Answers

@@ -1,0 +1,328 @@
+// A code item whole: its units, tries, handler list and links, of which one try, one handler and one pair are kept.
+// `s` ends where the data section ends, `item` is the place of the code item.
+use code_heads::Head;
+use code_heads::HeadAnswer;
+use frame::Frame;
+use handlers::Brief;
+use handlers::BriefFound;
+use handlers::Judge;
+use handlers::ListAnswer;
+use handlers::Pair;
+use refusal::Refusal;
+use word::Endian;
+ghost use mathlib.Core.Path.{_≡_};
+ghost use mathlib.Core.Bool.{cond};
+ghost use Prim.Native.Nat.{_+_, _*_, _≤_};
+ghost use lib.ListN.{length};
+ghost use Rattle.code_bodies.specs.Tries.{tryAt, tryAllowed, keptTry, keptLink};
+ghost use Rattle.code_bodies.specs.Code.{linkedStage, listedStage, partsStage, bodyStage, keptAt};
+ghost use Rattle.code_bodies.specs.Answers.{try-found, number-outcome, kept-outcome};
+
+// A try: its first unit, how many units, and its handler's offset from the handler list's first byte.
+pub struct Try {
+    pub start: u32,
+    pub count: u16,
+    pub handler: u16,
+}
+
+pub enum TryFound {
+    Got(Try),
+    Refused(Refusal),
+}
+
+pub enum Number {
+    Got(u32),
+    Refused(Refusal),
+}
+
+// The whole, with one try and its handler's number, and one handler.
+pub enum KeptAnswer {
+    Got {
+        head: Head,
+        attempt: Try,
+        link: u32,
+        handlers: u32,
+        brief: Brief,
+        from: usize,
+        base: usize,
+        end: usize,
+    },
+    Refused(Refusal),
+}
+
+// The try at a place.
+fn try_read(s: &[u8], order: Endian, at: usize) -> Try
+    requires { ⌜ at + 8 ≤ length (now s) ⌝ }
+    ensures { λ r. ⌜ r ≡ tryAt order (now (s .entry)) at ⌝ }
+{
+    Try {
+        start: word::u32_at(s, at, order),
+        count: word::u16_at(s, at + 4, order),
+        handler: word::u16_at(s, at + 6, order),
+    }
+}
+
+// Does a try lie within the instructions, at or after the previous try's end.
+fn is_try_allowed(units: u32, floor: u64, t: Try) -> bool
+    ensures { λ r. ⌜ r ≡ tryAllowed units floor t ⌝ }
+{
+    let start = t.start as u64;
+    if start < floor {
+        return false;
+    }
+    start + t.count as u64 <= units as u64
+}
+
+// The new try where it is the one asked for, or else the one that was kept.
+fn newer_try(asked: bool, new: Try, old: Try) -> Try
+    ensures { λ r. ⌜ r ≡ cond asked new old ⌝ }
+{
+    if asked {
+        return new;
+    }
+    old
+}
+
+// The new number where it is the one asked for, or else the one that was kept.
+fn newer_number(asked: bool, new: u32, old: u32) -> u32
+    ensures { λ r. ⌜ r ≡ cond asked new old ⌝ }
+{
+    if asked {
+        return new;
+    }
+    old
+}
+
+// All tries, of which number k is kept.
+fn tries_found(
+    s: &[u8],
+    order: Endian,
+    units: u32,
+    item: usize,
+    from: usize,
+    count: u16,
+    k: u32,
+) -> TryFound
+    requires { ⌜ from + 8 * count ≤ length (now s) ⌝ }
+    ensures { λ r. ⌜ try-found r ≡ keptTry order (now (s .entry)) units item from count k ⌝ }
+{
+    let mut place = from;
+    let mut floor: u64 = 0;
+    let mut kept = Try {
+        start: 0,
+        count: 0,
+        handler: 0,
+    };
+    let mut i: u32 = 0;
+    let mut left = count;
+    while 0 < left {
+        let t = try_read(s, order, place);
+        if is_try_allowed(units, floor, t) {
+            kept = newer_try(i == k, t, kept);
+            floor = t.start as u64 + t.count as u64;
+        } else {
+            return TryFound::Refused(Refusal {
+                number: 17,
+                place: item,
+            });
+        }
+        place += 8;
+        i += 1;
+        left -= 1;
+    }
+    TryFound::Got(kept)
+}
+
+// The handler's number of each try, of which that of try k is kept. Each try's handler offset is looked for among the starts of the
+// `handlers` handlers from `first` on, which are gone over again for each try.
+fn links_at(
+    s: &[u8],
+    order: Endian,
+    j: Judge,
+    first: usize,
+    handlers: u32,
+    from: usize,
+    count: u16,
+    k: u32,
+) -> Number
+    requires { ⌜ from + 8 * count ≤ length (now s) ⌝ }
+    ensures { λ r. ⌜ number-outcome r ≡ keptLink order (now (s .entry)) j first handlers from count k ⌝ }
+{
+    let mut place = from;
+    let mut kept: u32 = 0;
+    let mut i: u32 = 0;
+    let mut left = count;
+    'tries: while 0 < left {
+        let want = word::u16_at(s, place + 6, order) as usize;
+        let mut p = first;
+        let mut number: u32 = 0;
+        let mut unseen = handlers;
+        while 0 < unseen {
+            match handlers::handler_found(s, j, p, 0) {
+                BriefFound::Refused(r) => {
+                    return Number::Refused(r);
+                }
+                BriefFound::Got { brief, next } => {
+                    if brief.offset == want {
+                        kept = newer_number(i == k, number, kept);
+                        place += 8;
+                        i += 1;
+                        left -= 1;
+                        continue 'tries;
+                    }
+                    p = next;
+                }
+            }
+            number += 1;
+            unseen -= 1;
+        }
+        return Number::Refused(Refusal {
+            number: 17,
+            place: j.item,
+        });
+    }
+    Number::Got(kept)
+}
+
+// The handler list of an item with tries, and then the tries' handler offsets.
+fn linked_at(
+    s: &[u8],
+    order: Endian,
+    j: Judge,
+    head: Head,
+    attempt: Try,
+    from: usize,
+    t: u32,
+    h: u32,
+    k: u32,
+) -> KeptAnswer
+    requires { ⌜ from + 8 * (head .tries) ≤ length (now s) ⌝ }
+    ensures { λ r. ⌜ kept-outcome r ≡ linkedStage (now (s .entry)) order j head attempt from t h k ⌝ }
+{
+    match handlers::handlers_at(s, j, h, k) {
+        ListAnswer::Refused(r) => KeptAnswer::Refused(r),
+        ListAnswer::Got {
+            count,
+            brief,
+            first,
+            end,
+        } => match links_at(s, order, j, first, count, from, head.tries, t) {
+            Number::Refused(r) => KeptAnswer::Refused(r),
+            Number::Got(link) => KeptAnswer::Got {
+                head,
+                attempt,
+                link,
+                handlers: count,
+                brief,
+                from,
+                base: j.base,
+                end,
+            },
+        },
+    }
+}
+
+// Without tries there is no handler list.
+fn listed_at(
+    s: &[u8],
+    order: Endian,
+    j: Judge,
+    head: Head,
+    attempt: Try,
+    from: usize,
+    t: u32,
+    h: u32,
+    k: u32,
+) -> KeptAnswer
+    requires { ⌜ from + 8 * (head .tries) ≤ length (now s) ⌝ }
+    ensures { λ r. ⌜ kept-outcome r ≡ listedStage (now (s .entry)) order j head attempt from t h k ⌝ }
+{
+    let tries = head.tries;
+    if 0 < tries {
+        return linked_at(s, order, j, head, attempt, from, t, h, k);
+    }
+    KeptAnswer::Got {
+        head,
+        attempt,
+        link: 0,
+        handlers: 0,
+        brief: Brief {
+            offset: 0,
+            pairs: 0,
+            pair: Pair {
+                kind: 0,
+                address: 0,
+            },
+            caught: false,
+            all: 0,
+        },
+        from,
+        base: j.base,
+        end: j.base,
+    }
+}
+
+// The tries, and what follows them.
+fn parts_at(
+    s: &[u8],
+    order: Endian,
+    j: Judge,
+    head: Head,
+    from: usize,
+    t: u32,
+    h: u32,
+    k: u32,
+) -> KeptAnswer
+    requires { ⌜ from + 8 * (head .tries) ≤ length (now s) ⌝ }
+    ensures { λ r. ⌜ kept-outcome r ≡ partsStage (now (s .entry)) order j head from t h k ⌝ }
+{
+    match tries_found(s, order, head.units, j.item, from, head.tries, t) {
+        TryFound::Refused(r) => KeptAnswer::Refused(r),
+        TryFound::Got(attempt) => listed_at(s, order, j, head, attempt, from, t, h, k),
+    }
+}
+
+// What follows the head: its length first, up to the handler list.
+fn body_at(s: &[u8], f: Frame, item: usize, head: Head, t: u32, h: u32, k: u32) -> KeptAnswer
+    ensures { λ r. ⌜ kept-outcome r ≡ bodyStage (now (s .entry)) f item head t h k ⌝ }
+{
+    let order = f.order;
+    let body = code_heads::body_size(head);
+    let tries = 8 * head.tries as usize;
+    if s.len() < item {
+        return KeptAnswer::Refused(Refusal {
+            number: 9,
+            place: item,
+        });
+    }
+    if s.len() - item < body {
+        return KeptAnswer::Refused(Refusal {
+            number: 9,
+            place: item,
+        });
+    }
+    if s.len() - item - body < tries {
+        return KeptAnswer::Refused(Refusal {
+            number: 9,
+            place: item,
+        });
+    }
+    let from = item + body;
+    let j = Judge {
+        types: f.types,
+        units: head.units,
+        item,
+        base: from + tries,
+    };
+    parts_at(s, order, j, head, from, t, h, k)
+}
+
+// The whole, of which try t with its handler's number, and pair k of handler h, are kept.
+pub fn kept_at(s: &[u8], f: Frame, item: usize, t: u32, h: u32, k: u32) -> KeptAnswer
+    ensures { λ r. ⌜ kept-outcome r ≡ keptAt (now (s .entry)) f item t h k ⌝ }
+{
+    match code_heads::head_at(s, f, item) {
+        HeadAnswer::Refused(r) => KeptAnswer::Refused(r),
+        HeadAnswer::Got(head) => body_at(s, f, item, head, t, h, k),
+    }
+}

@@ -1,0 +1,22 @@
+-- The reading of a head finds exactly what the rule allows.
+-- Assumes nothing.
+use Prim.Native.Nat.{ℕ, _+_}
+use mathlib.Core.Bool.{false}
+use mathlib.Core.List.{List}
+use lib.ListN.{length}
+use native.Mathlib.Omega.{arith}
+use Rattle.refusal.specs.Exact.{Exact}
+use Rattle.refusal.proofs.Exact.{answer-exact, given-exact, exact-iff, at-most}
+use Rattle.word.specs.Words.{u32At}
+use Rattle.frame.specs.declared.Frame.{Frame}
+use Rattle.frame.proofs.Laws.{or-absent-decides}
+use Rattle.code_heads.specs.Heads.{headAt}
+use Rattle.code_heads.specs.Rules.{read-head, HeadRule}
+
+pub head-exact : (s : List ℕ) (f : Frame) (item : ℕ) → Exact (headAt s f item) (HeadRule s f item)
+unfolding headAt
+head-exact s f item =
+    exact-iff (given-exact 9 item (at-most (item + 12) (length s)) (given-exact 8 item (or-absent-decides (f .start) (length s) false (u32At (f .order) s (item + 8)))
+    (given-exact 9 item (at-most (item + 16) (length s)) (answer-exact (read-head (f .order) s item)))))
+    (λ h e. record { room = e .1 .1 .0; debug = e .1 .0; fields = e .1 .1 .1 })
+    (λ h e. let room = e .room in (omega arith, (e .debug, (room, e .fields))))

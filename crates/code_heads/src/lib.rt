@@ -1,0 +1,82 @@
+// The head of a code item, and how far its tries are from it.
+// `s` ends where the data section ends, `item` is the place of the code item.
+use frame::Frame;
+use refusal::Refusal;
+ghost use mathlib.Core.Path.{_≡_};
+ghost use Rattle.code_heads.specs.Heads.{headAt, padding, bodySize};
+ghost use Rattle.code_heads.specs.Answers.{head-outcome};
+
+// The head of a code item, in stored order.
+pub struct Head {
+    pub registers: u16,
+    pub ins: u16,
+    pub outs: u16,
+    pub tries: u16,
+    pub debug: u32,
+    pub units: u32,
+}
+
+pub enum HeadAnswer {
+    Got(Head),
+    Refused(Refusal),
+}
+
+// The head: 9 where a field is missing, 8 for the debug offset before what is stored after it.
+pub fn head_at(s: &[u8], f: Frame, item: usize) -> HeadAnswer
+    ensures { λ r. ⌜ head-outcome r ≡ headAt (now (s .entry)) f item ⌝ }
+{
+    let order = f.order;
+    if s.len() < item {
+        return HeadAnswer::Refused(Refusal {
+            number: 9,
+            place: item,
+        });
+    }
+    if s.len() - item < 12 {
+        return HeadAnswer::Refused(Refusal {
+            number: 9,
+            place: item,
+        });
+    }
+    let debug = word::u32_at(s, item + 8, order);
+    if frame::is_allowed_or_absent(f.start, s.len(), false, debug as usize) {
+        if s.len() - item < 16 {
+            return HeadAnswer::Refused(Refusal {
+                number: 9,
+                place: item,
+            });
+        }
+        return HeadAnswer::Got(Head {
+            registers: word::u16_at(s, item, order),
+            ins: word::u16_at(s, item + 2, order),
+            outs: word::u16_at(s, item + 4, order),
+            tries: word::u16_at(s, item + 6, order),
+            debug,
+            units: word::u32_at(s, item + 12, order),
+        });
+    }
+    HeadAnswer::Refused(Refusal {
+        number: 8,
+        place: item,
+    })
+}
+
+// Two bytes of padding after an odd unit count, only if there are tries.
+fn padding_of(tries: u16, units: u32) -> u8
+    ensures { λ r. ⌜ r ≡ padding tries units ⌝ }
+{
+    if 0 < tries {
+        if units % 2 == 1 {
+            return 2;
+        }
+        return 0;
+    }
+    0
+}
+
+// How far from the item the tries are.
+pub fn body_size(h: Head) -> usize
+    ensures { λ r. ⌜ r ≡ bodySize h ⌝ }
+{
+    16 + 2 * h.units as usize + padding_of(h.tries, h.units) as usize
+}

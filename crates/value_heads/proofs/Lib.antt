@@ -1,0 +1,4 @@
+pub mod Numbers
+pub mod Exactly
+pub mod Laws
+pub mod Once

@@ -1,0 +1,16 @@
+use Rattle.value_heads.proofs.Laws.{kind-laws as laws}
+use Rattle.value_heads.proofs.has_room.Statement.{statement}
+use Rattle.value_heads.proofs.has_room.Tie as tie
+use Rattle.value_heads.proofs.has_room.Reads as reads
+use Rattle.value_heads.proofs.has_room.Lts as lts
+
+-- src/lib.rt:116:9
+returns : tie.Need-returns
+returns c = search laws
+
+-- src/lib.rt:112:1
+returns-2 : tie.Need-returns-2
+returns-2 c = search laws
+
+pub has-room-spec : {M : Type 1} → statement M
+has-room-spec = tie.close (tie.spec returns returns-2)

@@ -1,0 +1,35 @@
+use Rattle.value_heads.proofs.Laws.{head-laws as laws}
+use Rattle.value_heads.specs.Readings.{headAt}
+use Rattle.value_heads.proofs.head_at.Statement.{statement}
+use Rattle.value_heads.proofs.head_at.Tie as tie
+use Rattle.value_heads.proofs.head_at.Reads as reads
+use Rattle.value_heads.proofs.head_at.Lts as lts
+use Rattle.value_heads.proofs.is_allowed_head.Reads as is-allowed-head-reads
+
+-- src/lib.rt:126:9
+returns : tie.Need-returns
+unfolding headAt
+returns c = search laws
+
+-- src/lib.rt:131:16
+shared-slice-read-head : tie.Need-shared-slice-read-head
+shared-slice-read-head c = search laws
+
+-- src/lib.rt:132:8
+is-allowed-head-requires : tie.Need-is-allowed-head-requires
+is-allowed-head-requires c κs = search laws
+
+-- src/lib.rt:133:9
+returns-2 : tie.Need-returns-2
+unfolding headAt
+returns-2 c = search laws
+
+-- src/lib.rt:122:1
+returns-3 : tie.Need-returns-3
+unfolding headAt
+returns-3 c = search laws
+
+pub head-at-spec : {M : Type 1} → statement M
+head-at-spec =
+    tie.close
+    (tie.spec returns shared-slice-read-head is-allowed-head-requires returns-2 returns-3)

@@ -1,0 +1,5 @@
+pub mod Kinds
+pub mod Numbers
+pub mod Readings
+pub mod Rules
+pub mod Answers

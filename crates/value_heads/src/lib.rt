@@ -1,0 +1,241 @@
+// The parts of a value that hold no other value: its head byte, its bytes as a number, and its index.
+// `s` is the file up to the data section's end, so that a position past its length is 9.
+use frame::Frame;
+use leb128::Leb;
+use refusal::Refusal;
+ghost use mathlib.Core.Path.{_≡_};
+ghost use Prim.Native.Nat.{_+_, _*_, _^_, _≤_, _<_};
+ghost use lib.ListN.{length};
+ghost use lib.Dec.{leb};
+ghost use Rattle.word.specs.Bytes.{stretch};
+ghost use Rattle.value_heads.specs.Kinds.{allowed-head, bytes-of, is-index, walkOf, count-of, in-range};
+ghost use Rattle.value_heads.specs.Numbers.{little};
+ghost use Rattle.value_heads.specs.Readings.{headAt, numberAt, checkedAt, indexAt};
+ghost use Rattle.value_heads.specs.Answers.{head-outcome, number-outcome, Small};
+ghost use Rattle.leb128.specs.Answers.{leb-outcome};
+
+// How many arguments each code allows, from 0 on.
+pub const ARGUMENTS: [u8; 32] = [
+    1,
+    0,
+    2,
+    2,
+    4,
+    0,
+    8,
+    0,
+    0,
+    0,
+    0,
+    0,
+    0,
+    0,
+    0,
+    0,
+    4,
+    8,
+    0,
+    0,
+    0,
+    4,
+    4,
+    4,
+    4,
+    4,
+    4,
+    4,
+    1,
+    1,
+    1,
+    2,
+];
+
+// What stays the same while the bodies of one item are gone over: the item's place, and the counts that indices are tested by.
+pub struct Walk {
+    pub item: usize,
+    pub strings: u32,
+    pub types: u32,
+    pub protos: u32,
+    pub fields: u32,
+    pub methods: u32,
+    pub handles: u32,
+}
+
+pub enum HeadByte {
+    Got(u8),
+    Refused(Refusal),
+}
+
+// The number of a value's bytes, low first.
+pub enum Number {
+    Got { value: u64, next: usize },
+    Refused(Refusal),
+}
+
+pub fn walk_of(f: Frame, item: usize) -> Walk
+    ensures { λ r. ⌜ r ≡ walkOf f item ⌝ }
+{
+    Walk {
+        item,
+        strings: f.strings,
+        types: f.types,
+        protos: f.protos,
+        fields: f.fields,
+        methods: f.methods,
+        handles: f.handles,
+    }
+}
+
+pub fn is_allowed_head(head: u8) -> bool
+    ensures { λ r. ⌜ r ≡ allowed-head head ⌝ }
+{
+    head / 32 < ARGUMENTS[(head % 32) as usize]
+}
+
+// How many bytes follow the head byte of a value that is no body.
+pub fn size_of(head: u8) -> usize
+    ensures { λ r. ⌜ r ≡ bytes-of head ⌝ }
+{
+    if head % 32 < 0x1c {
+        return (head / 32 + 1) as usize;
+    }
+    0
+}
+
+pub fn is_index_code(code: u8) -> bool
+    ensures { λ r. ⌜ r ≡ is-index code ⌝ }
+{
+    if 0x15 <= code {
+        return code < 0x1c;
+    }
+    false
+}
+
+// The count that an index of a code is tested by: an enum is a field.
+pub fn limit_of(w: Walk, code: u8) -> u32
+    ensures { λ r. ⌜ r ≡ count-of w code ⌝ }
+{
+    if code == 0x15 {
+        return w.protos;
+    }
+    if code == 0x16 {
+        return w.handles;
+    }
+    if code == 0x17 {
+        return w.strings;
+    }
+    if code == 0x18 {
+        return w.types;
+    }
+    if code == 0x1a {
+        return w.methods;
+    }
+    w.fields
+}
+
+// Do n bytes fit from a place on.
+pub fn has_room(len: usize, at: usize, n: usize) -> bool
+    ensures { λ r. ⌜ r ≡ leb (at + n) len ⌝ }
+{
+    if len < at {
+        return false;
+    }
+    n <= len - at
+}
+
+// A value's head byte: 9 where it is missing, 12 where it is not allowed.
+pub fn head_at(s: &[u8], item: usize, at: usize) -> HeadByte
+    ensures { λ r. ⌜ head-outcome r ≡ headAt (now (s .entry)) item at ⌝ }
+{
+    if s.len() <= at {
+        return HeadByte::Refused(Refusal {
+            number: 9,
+            place: item,
+        });
+    }
+    let head = s[at];
+    if is_allowed_head(head) {
+        return HeadByte::Got(head);
+    }
+    HeadByte::Refused(Refusal {
+        number: 12,
+        place: item,
+    })
+}
+
+// The number of the n bytes from a place on, low first.
+fn joined(s: &[u8], at: usize, n: usize) -> u64
+    requires { ⌜ (n ≤ 8) × (at + n ≤ length (now s)) ⌝ }
+    ensures { λ r. ⌜ (r ≡ little (stretch (now (s .entry)) at n)) × (r < 2 ^ (8 * n)) ⌝ }
+{
+    let mut sum: u64 = 0;
+    let mut left = n;
+    while 0 < left {
+        left -= 1;
+        sum = sum * 256 + s[at + left] as u64;
+    }
+    sum
+}
+
+// The number of the bytes that follow a head byte.
+pub fn number_at(s: &[u8], item: usize, at: usize, head: u8) -> Number
+    ensures { λ r. ⌜ (number-outcome r ≡ numberAt (now (s .entry)) item at (bytes-of head)) × Small head r ⌝ }
+{
+    let n = size_of(head);
+    if has_room(s.len(), at, n) {
+        return Number::Got {
+            value: joined(s, at, n),
+            next: at + n,
+        };
+    }
+    Number::Refused(Refusal {
+        number: 9,
+        place: item,
+    })
+}
+
+// Is a number allowed for a code: an index is below its count.
+pub fn is_in_range(w: Walk, code: u8, number: u64) -> bool
+    ensures { λ r. ⌜ r ≡ in-range w code number ⌝ }
+{
+    if is_index_code(code) {
+        return number < limit_of(w, code) as u64;
+    }
+    true
+}
+
+// The number of a value that is no body, behind its head byte: its bytes, then its index.
+pub fn checked_number(s: &[u8], w: Walk, at: usize, head: u8) -> Number
+    ensures { λ r. ⌜ (number-outcome r ≡ checkedAt (now (s .entry)) w head at) × Small head r ⌝ }
+{
+    match number_at(s, w.item, at, head) {
+        Number::Refused(r) => Number::Refused(r),
+        Number::Got { value, next } => {
+            if is_in_range(w, head % 32, value) {
+                return Number::Got { value, next };
+            }
+            Number::Refused(Refusal {
+                number: 11,
+                place: w.item,
+            })
+        }
+    }
+}
+
+// A LEB128 number that is an index below a count.
+pub fn index_at(s: &[u8], item: usize, count: u32, at: usize) -> Leb
+    ensures { λ r. ⌜ leb-outcome r ≡ indexAt (now (s .entry)) item count at ⌝ }
+{
+    match leb128::uleb(s, at, item) {
+        Leb::Refused(r) => Leb::Refused(r),
+        Leb::Got { value, next } => {
+            if value < count {
+                return Leb::Got { value, next };
+            }
+            Leb::Refused(Refusal {
+                number: 11,
+                place: item,
+            })
+        }
+    }
+}
