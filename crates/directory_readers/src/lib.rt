@@ -1,5 +1,5 @@
 // The readers of the annotation directory of a class, each over a lent file: header (1 to 6), 7 for the class, its record, the directory whole, 7 for the
-// entry. They hold no values, so none of them reads the map. One piece serves the three lists: fields 0, methods 1, parameters 2.
+// entry. A directory holds no values, so the map is not read. One piece serves the three lists: fields 0, methods 1, parameters 2.
 use annotation_directories::EntryAnswer;
 use annotation_directories::Head;
 use annotation_directories::HeadAnswer;

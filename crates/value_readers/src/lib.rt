@@ -1,4 +1,5 @@
-// Values by place and by class, and annotation items by place: header, map, 7 for a place outside the data section or a number, the item whole, 7 for the inner number.
+// Values by place and by class, and annotation items by place: header, map, 7 for a place outside the data section or a number, the item whole,
+// 7 for the inner number.
 use refusal::Refusal;
 
 mod bodies;
