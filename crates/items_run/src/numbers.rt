@@ -1,4 +1,4 @@
-// Kinds 0 to 7: numbers, texts, and what is written to a lent output.
+// Kinds 0 to 4: LEB128 numbers and texts.
 use class_readers::MaybeCount;
 use code_units::UnitsAnswer;
 use decoded_value::Value;

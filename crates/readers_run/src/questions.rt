@@ -1,5 +1,5 @@
 // A question: a reader, the words of the answer that are written (3 bytes), the width of its five numbers (1, 2 or 4), the length of what comes behind
-// them (a path or a text; for an output its length alone); then these.
+// them (a path or a text); then these.
 use super::classes;
 use super::code;
 use super::heads;
