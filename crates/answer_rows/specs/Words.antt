@@ -21,7 +21,7 @@ use Rattle.decoded_value.specs.Shown.{Shown, Content, integer, natural, floatin
 use Rattle.value_bodies.specs.Bodies.{ShownElement}
 use Rattle.value_readers.specs.Bodies.{Sized, NotedSize}
 use Rattle.class_data.specs.declared.Counts.{Counts}
-use Rattle.class_data.specs.declared.Member as D
+use Rattle.class_members.specs.declared.Member as D
 use Rattle.code_item.specs.declared.Outline.{Outline}
 use Rattle.code_item.specs.Code.{Linked, Handed}
 use Rattle.handlers.specs.declared.Pair.{Pair}

@@ -1,6 +1,6 @@
--- What the functions' proofs cite: the loop of `members_at`, the stages of the whole, and lists by their numbers.
+-- What the functions' proofs cite: the stages of the whole, and lists by their numbers.
 -- Assumes nothing.
-use Prim.Native.Nat.{ℕ, _+_, _-_, _<_, _≤_}
+use Prim.Native.Nat.{ℕ, _<_, _≤_}
 use mathlib.Core.Path.{_≡_, refl, ap, sym, _∙_}
 use mathlib.Core.Bool.{Bool, true, false, cond}
 use mathlib.Core.List.{List, []}
@@ -9,21 +9,18 @@ use lib.Dec.{ltb, eqb}
 use borrow.Author.Needs.{needs}
 use borrow.Author.Tests.{lt-ltb, le-ltb}
 use native.Mathlib.Omega.{arith}
-use Rattle.refusal.specs.declared.Refusal.{Refusal}
 use Rattle.refusal.specs.Outcome.{Outcome, answer, refused, _>>=_, given}
 use Rattle.refusal.specs.Rows.{Found}
-use Rattle.refusal.specs.Choose.{choose}
-use Rattle.refusal.proofs.Laws.{said, tests, calls, bind-answer, bind-refused, passes, fails}
+use Rattle.refusal.proofs.Laws.{said, tests, calls, bind-answer, passes, fails}
 use Rattle.refusal.proofs.Rows.{bind-assoc}
-use Rattle.refusal.proofs.Choose.{Choosing, choosing-first, choosing-next, choosing-stop, choosing-done, chosen-by}
 use Rattle.leb128.proofs.Laws.{on-leb}
 use Rattle.frame.specs.declared.Frame.{Frame}
-use Rattle.class_data.specs.declared.Member.{Member}
-use Rattle.class_data.specs.declared.Judge.{Judge}
+use Rattle.class_members.specs.declared.Member.{Member}
+use Rattle.class_members.specs.declared.Judge.{Judge}
+use Rattle.class_members.specs.Members.{nobody, membersAt, keptMembers}
+use Rattle.class_members.proofs.Laws.{on-found, members-by}
 use Rattle.class_data.specs.declared.Counts.{Counts}
 use Rattle.class_data.specs.declared.Four.{Four}
-use Rattle.class_data.specs.declared.MemberFound.{MemberFound}
-use Rattle.class_data.specs.declared.MemberFound.the-variants as F
 use Rattle.class_data.specs.declared.Pair.{Pair}
 use Rattle.class_data.specs.declared.CountsAnswer.{CountsAnswer}
 use Rattle.class_data.specs.declared.TwoAnswer.{TwoAnswer}
@@ -32,38 +29,10 @@ use Rattle.class_data.specs.declared.Methods.{Methods}
 use Rattle.class_data.specs.declared.MethodsAnswer.{MethodsAnswer}
 use Rattle.class_data.specs.declared.DataAnswer.{DataAnswer}
 use Rattle.class_data.specs.declared.MemberAnswer.{MemberAnswer}
-use Rattle.class_data.specs.Members.{memberAt, Run, stepAt, nobody, begin, membersAt, placed, keptMembers}
 use Rattle.class_data.specs.Data.{Both, countsAt, Two, twoAt, fields-judge, methods-judge, ClassData, classDataAt, counts, extentAt, methodsAt, one-of-four, listOf, memberOf, KeptTwo, keptTwo, Kept, keptAt, countIn, memberIn}
-use Rattle.class_data.specs.Answers.{found-outcome, pair-outcome, counts-outcome, two-outcome, kept-outcome, data-outcome, member-outcome, methods-outcome}
-
--- ---- the loop of `members_at` at its head
-pub record Members (s : List ℕ) (j : Judge) (item from count k left p : ℕ) (last : Member) (later : Bool) (i : ℕ) (kept : Member) : Type 0 where
-  choosing : Choosing (stepAt s j item) count (begin from) nobody k left (record { place = p; last = last; later = later }) i kept
-  pub sum : i + left ≡ count
-
-pub members-first : (s : List ℕ) (j : Judge) (item from count k : ℕ) → Members s j item from count k count from nobody false 0 nobody
-members-first s j item from count k = record { choosing = choosing-first (stepAt s j item) count (begin from) nobody k; sum = omega arith }
-
-module _ {s : List ℕ} {j : Judge} {item from count k left p : ℕ} {last : Member} {later : Bool} {i : ℕ} {kept : Member} (h : Members s j item from count k left p last later i kept)
-    {x : MemberFound} (l : 0 < left) (e : found-outcome x ≡ memberAt s j item (last .index) later p) where
-  pub members-next : {a new : Member} {n : ℕ} → x ≡ F.Got a n → new ≡ cond (eqb i k) a kept → Members s j item from count k (left - 1) n a true (i + 1) new
-  unfolding stepAt
-  members-next t w = record { choosing = choosing-next (h .choosing) l (sym (bind-answer _ (sym (sym (ap found-outcome t) ∙ e)))) w; sum = let z = h .sum in omega arith }
-
-  pub members-stop : {r : Refusal} → x ≡ F.Refused r → refused r ≡ keptMembers s j item from count k
-  unfolding keptMembers stepAt
-  members-stop t = sym (bind-refused placed (sym (choosing-stop (h .choosing) l (sym (bind-refused _ (sym (sym (ap found-outcome t) ∙ e)))))))
-
-pub members-done : {s : List ℕ} {j : Judge} {item from count k left p : ℕ} {last : Member} {later : Bool} {i : ℕ} {kept : Member} → Members s j item from count k left p last later i kept
-    → left ≤ 0 → answer (record { item = kept; next = p }) ≡ keptMembers s j item from count k
-unfolding keptMembers
-members-done h l = sym (bind-answer placed (sym (choosing-done (h .choosing) l)))
+use Rattle.class_data.specs.Answers.{pair-outcome, counts-outcome, two-outcome, kept-outcome, data-outcome, member-outcome, methods-outcome}
 
 -- ---- calls, by the arm that was taken
-pub on-found : {B : Type 0} {x c : MemberFound} {o : Outcome (Found Member ℕ)} {y : Outcome B} (k : Found Member ℕ → Outcome B)
-    → found-outcome x ≡ o → x ≡ c → y ≡ (found-outcome c >>= k) → y ≡ (o >>= k)
-on-found = said found-outcome
-
 pub on-pair : {B : Type 0} {x c : Pair} {o : Outcome (Found Both ℕ)} {y : Outcome B} (k : Found Both ℕ → Outcome B)
     → pair-outcome x ≡ o → x ≡ c → y ≡ (pair-outcome c >>= k) → y ≡ (o >>= k)
 on-pair = said pair-outcome
@@ -92,14 +61,6 @@ on-methods = said methods-outcome
 
 -- ---- the stages: of each list one member and the count are kept
 module _ (s : List ℕ) (item k : ℕ) {B : Type 0} where
-  members-by : (j : Judge) (from n : ℕ) (f : Found (List Member) Run → Outcome B) (g : Found Member ℕ → Outcome B)
-      → ((r : Found (List Member) Run) → length (r .item) ≡ n → f r ≡ g (record { item = getD (r .item) k nobody; next = r .next .place }))
-      → (membersAt s j item from n >>= f) ≡ (keptMembers s j item from n k >>= g)
-  unfolding membersAt keptMembers
-  members-by j from n f g h =
-      chosen-by n (stepAt s j item) nobody k (begin from) f (λ (r : Found Member Run). placed r >>= g) (λ r size. h r size ∙ sym (bind-answer g refl))
-      ∙ sym (bind-assoc (choose n (stepAt s j item) nobody k (begin from)) placed g)
-
   two-by : (j : Judge) (from m n : ℕ) (f : Found Two ℕ → Outcome B) (g : KeptTwo → Outcome B)
       → ((t : Found Two ℕ) → length (t .item .first) ≡ m → length (t .item .second) ≡ n
       → f t ≡ g (record { first = getD (t .item .first) k nobody; second = getD (t .item .second) k nobody; next = t .next }))
@@ -107,9 +68,9 @@ module _ (s : List ℕ) (item k : ℕ) {B : Type 0} where
   unfolding twoAt keptTwo
   two-by j from m n f g h =
       bind-assoc (membersAt s j item from m) _ f
-      ∙ members-by j from m _ (λ (x : Found Member ℕ). keptMembers s j item (x .next) n k >>= λ (y : Found Member ℕ). g (record { first = x .item; second = y .item; next = y .next }))
+      ∙ members-by s item k j from m _ (λ (x : Found Member ℕ). keptMembers s j item (x .next) n k >>= λ (y : Found Member ℕ). g (record { first = x .item; second = y .item; next = y .next }))
       (λ x size. bind-assoc (membersAt s j item (x .next .place) n) _ f
-      ∙ members-by j (x .next .place) n _ _ (λ y more. bind-answer f refl ∙ h (record { item = record { first = x .item; second = y .item }; next = y .next .place }) size more))
+      ∙ members-by s item k j (x .next .place) n _ _ (λ y more. bind-answer f refl ∙ h (record { item = record { first = x .item; second = y .item }; next = y .next .place }) size more))
       ∙ sym (bind-assoc (keptMembers s j item from m k) _ g ∙ λ i. keptMembers s j item from m k >>= λ (x : Found Member ℕ). inner x i)
     where
       inner : (x : Found Member ℕ)
@@ -189,8 +150,6 @@ module _ (list k : ℕ) (c : Counts) (m : Four) {n : ℕ} (e : n ≡ countIn lis
 
 -- ---- what this crate's functions are searched with
 pub ruleset part-laws = (on-leb, on-found, on-pair, calls, tests, needs)
-
-pub ruleset loop-laws = (members-first, members-next, members-stop, members-done, needs)
 
 pub ruleset stage-laws = (on-counts, on-two, on-kept, extent-by, methods-by, member-by, member-there, member-lacks, calls, tests, needs)
 

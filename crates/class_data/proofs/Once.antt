@@ -5,14 +5,13 @@ use mathlib.Core.Path.{_≡_, refl}
 use Rattle.refusal.specs.Outcome.{Outcome, answer, refused}
 use Rattle.refusal.specs.Rows.{Found}
 use Rattle.refusal.proofs.Laws.{one-to-one}
-use Rattle.class_data.specs.declared.Member.{Member}
+use Rattle.class_members.specs.declared.Member.{Member}
 use Rattle.class_data.specs.declared.Counts.{Counts}
-use Rattle.class_data.specs.Answers.{found-outcome, data-outcome, methods-outcome, member-outcome}
+use Rattle.class_data.specs.Answers.{data-outcome, methods-outcome, member-outcome}
 use Rattle.class_data.specs.declared.DataAnswer as D
 use Rattle.class_data.specs.declared.MemberAnswer as M
 use Rattle.class_data.specs.declared.Methods.{Methods}
 use Rattle.class_data.specs.declared.MethodsAnswer as N
-use Rattle.class_data.specs.declared.MemberFound as F
 
 data-back : Outcome (Found Counts ℕ) → D.DataAnswer
 data-back (answer r) = D.the-variants.Got (r .item) (r .next)
@@ -49,15 +48,3 @@ methods-told (N.the-variants.Refused r) = refl
 
 pub methods-once : (x y : N.MethodsAnswer) → methods-outcome x ≡ methods-outcome y → x ≡ y
 methods-once = one-to-one methods-outcome methods-back methods-told
-
-found-back : Outcome (Found Member ℕ) → F.MemberFound
-found-back (answer r) = F.the-variants.Got (r .item) (r .next)
-found-back (refused r) = F.the-variants.Refused r
-
-found-told : (x : F.MemberFound) → found-back (found-outcome x) ≡ x
-unfolding found-back
-found-told (F.the-variants.Got m n) = refl
-found-told (F.the-variants.Refused r) = refl
-
-pub found-once : (x y : F.MemberFound) → found-outcome x ≡ found-outcome y → x ≡ y
-found-once = one-to-one found-outcome found-back found-told

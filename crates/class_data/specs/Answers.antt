@@ -3,10 +3,9 @@ use Prim.Native.Nat.{ℕ}
 use Rattle.refusal.specs.Outcome.{Outcome, answer, refused}
 use Rattle.refusal.specs.Rows.{Found}
 use Rattle.class_data.specs.Data.{Both, KeptTwo, Kept}
-use Rattle.class_data.specs.declared.Member.{Member}
+use Rattle.class_members.specs.declared.Member.{Member}
 use Rattle.class_data.specs.declared.Counts.{Counts}
 use Rattle.class_data.specs.declared.Methods.{Methods}
-use Rattle.class_data.specs.declared.MemberFound as F
 use Rattle.class_data.specs.declared.Pair as P
 use Rattle.class_data.specs.declared.CountsAnswer as C
 use Rattle.class_data.specs.declared.TwoAnswer as T
@@ -14,10 +13,6 @@ use Rattle.class_data.specs.declared.KeptAnswer as K
 use Rattle.class_data.specs.declared.DataAnswer as D
 use Rattle.class_data.specs.declared.MemberAnswer as M
 use Rattle.class_data.specs.declared.MethodsAnswer as N
-
-abbrev pub found-outcome : F.MemberFound → Outcome (Found Member ℕ)
-found-outcome (F.the-variants.Got m n) = answer (record { item = m; next = n })
-found-outcome (F.the-variants.Refused r) = refused r
 
 abbrev pub pair-outcome : P.Pair → Outcome (Found Both ℕ)
 pair-outcome (P.the-variants.Got a b n) = answer (record { item = record { first = a; second = b }; next = n })

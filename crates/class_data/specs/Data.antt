@@ -8,12 +8,12 @@ use Rattle.refusal.specs.Outcome.{Outcome, answer, _>>=_, given}
 use Rattle.refusal.specs.Rows.{Found}
 use Rattle.leb128.specs.Leb.{ulebAt}
 use Rattle.frame.specs.declared.Frame.{Frame}
-use Rattle.class_data.specs.declared.Member.{Member}
-use Rattle.class_data.specs.declared.Judge.{Judge}
+use Rattle.class_members.specs.declared.Member.{Member}
+use Rattle.class_members.specs.declared.Judge.{Judge}
 use Rattle.class_data.specs.declared.Counts.{Counts}
 use Rattle.class_data.specs.declared.Four.{Four}
 use Rattle.class_data.specs.declared.Methods.{Methods}
-use Rattle.class_data.specs.Members.{membersAt, keptMembers, nobody}
+use Rattle.class_members.specs.Members.{membersAt, keptMembers, nobody}
 
 -- two numbers, and two pairs of them
 pub record Both : Type 0 where

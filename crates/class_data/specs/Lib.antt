@@ -1,4 +1,3 @@
-pub mod Members
 pub mod Data
 pub mod Rules
 pub mod Answers

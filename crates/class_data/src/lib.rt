@@ -1,28 +1,14 @@
 // Class data: four counts, then static fields, instance fields, direct methods and virtual methods.
 // `s` ends where the data section ends, `item` is the place of the class data.
+use class_members::Judge;
+use class_members::Member;
+use class_members::MemberFound;
 use frame::Frame;
 use leb128::Leb;
 use refusal::Refusal;
 ghost use mathlib.Core.Path.{_≡_};
-ghost use mathlib.Core.Bool.{cond};
-ghost use Rattle.leb128.specs.Answers.{leb-outcome};
-ghost use Rattle.class_data.specs.Members.{apart, offsetAt, codeAt, restAt, memberAt, keptMembers};
 ghost use Rattle.class_data.specs.Data.{pairAt, countsAt, keptTwo, keptAt, extentAt, methodsAt, memberOf, countIn, memberIn};
-ghost use Rattle.class_data.specs.Answers.{found-outcome, pair-outcome, counts-outcome, two-outcome, kept-outcome, data-outcome, member-outcome, methods-outcome};
-
-// A field or method: its number, its access flags, and the offset of its code, 0 for a field.
-pub struct Member {
-    pub index: u32,
-    pub flags: u32,
-    pub code: u32,
-}
-
-// What the members of a list are judged by: how many there are to name, and whether a code offset follows.
-pub struct Judge {
-    pub limit: u32,
-    pub code: bool,
-    pub start: usize,
-}
+ghost use Rattle.class_data.specs.Answers.{pair-outcome, counts-outcome, two-outcome, kept-outcome, data-outcome, member-outcome, methods-outcome};
 
 pub struct Counts {
     pub statics: u32,
@@ -37,12 +23,6 @@ pub struct Four {
     pub instances: Member,
     pub directs: Member,
     pub virtuals: Member,
-}
-
-// A member and the place after it.
-pub enum MemberFound {
-    Got { member: Member, next: usize },
-    Refused(Refusal),
 }
 
 pub enum Pair {
@@ -102,154 +82,16 @@ pub enum MemberAnswer {
     Refused(Refusal),
 }
 
-// A later difference of 0 repeats a member.
-fn is_apart(later: bool, difference: u32) -> bool
-    ensures { λ r. ⌜ r ≡ apart later difference ⌝ }
-{
-    if later {
-        return 0 < difference;
-    }
-    true
-}
-
-// A code offset: 0, or a multiple of 4 in the data section.
-fn offset_at(s: &[u8], start: usize, item: usize, at: usize) -> Leb
-    ensures { λ r. ⌜ leb-outcome r ≡ offsetAt (now (s .entry)) start item at ⌝ }
-{
-    match leb128::uleb(s, at, item) {
-        Leb::Refused(r) => Leb::Refused(r),
-        Leb::Got { value, next } => {
-            if frame::is_allowed_or_absent(start, s.len(), true, value as usize) {
-                return Leb::Got { value, next };
-            }
-            Leb::Refused(Refusal {
-                number: 8,
-                place: item,
-            })
-        }
-    }
-}
-
-// The code offset of a method; a field has none.
-fn code_at(s: &[u8], code: bool, start: usize, item: usize, at: usize) -> Leb
-    ensures { λ r. ⌜ leb-outcome r ≡ codeAt (now (s .entry)) code start item at ⌝ }
-{
-    if code {
-        return offset_at(s, start, item, at);
-    }
-    Leb::Got { value: 0, next: at }
-}
-
-// What follows a member's difference.
-fn rest_at(s: &[u8], j: Judge, item: usize, index: u32, at: usize) -> MemberFound
-    ensures { λ r. ⌜ found-outcome r ≡ restAt (now (s .entry)) j item index at ⌝ }
-{
-    match leb128::uleb(s, at, item) {
-        Leb::Refused(r) => MemberFound::Refused(r),
-        Leb::Got { value: flags, next } => match code_at(s, j.code, j.start, item, next) {
-            Leb::Refused(r) => MemberFound::Refused(r),
-            Leb::Got {
-                value: code,
-                next: after,
-            } => MemberFound::Got {
-                member: Member { index, flags, code },
-                next: after,
-            },
-        },
-    }
-}
-
-// A member, after one whose index is `base`, or as the first of its list.
-pub fn member_found(
-    s: &[u8],
-    j: Judge,
-    item: usize,
-    base: u32,
-    later: bool,
-    at: usize,
-) -> MemberFound
-    ensures { λ r. ⌜ found-outcome r ≡ memberAt (now (s .entry)) j item base later at ⌝ }
-{
-    match leb128::uleb(s, at, item) {
-        Leb::Refused(r) => MemberFound::Refused(r),
-        Leb::Got { value, next } => {
-            if is_apart(later, value) {
-                let index = base as u64 + value as u64;
-                if index < j.limit as u64 {
-                    return rest_at(s, j, item, index as u32, next);
-                }
-                return MemberFound::Refused(Refusal {
-                    number: 11,
-                    place: item,
-                });
-            }
-            MemberFound::Refused(Refusal {
-                number: 15,
-                place: item,
-            })
-        }
-    }
-}
-
-// The new member where it is the one asked for, or else the one that was kept.
-fn newer(asked: bool, new: Member, old: Member) -> Member
-    ensures { λ r. ⌜ r ≡ cond asked new old ⌝ }
-{
-    if asked {
-        return new;
-    }
-    old
-}
-
-// All members of a list, of which number k is kept.
-fn members_at(s: &[u8], j: Judge, item: usize, from: usize, count: u32, k: u32) -> MemberFound
-    ensures { λ r. ⌜ found-outcome r ≡ keptMembers (now (s .entry)) j item from count k ⌝ }
-{
-    let mut p = from;
-    let mut last = Member {
-        index: 0,
-        flags: 0,
-        code: 0,
-    };
-    let mut later = false;
-    let mut kept = Member {
-        index: 0,
-        flags: 0,
-        code: 0,
-    };
-    let mut i: u32 = 0;
-    let mut left = count;
-    while 0 < left {
-        match member_found(s, j, item, last.index, later, p) {
-            MemberFound::Refused(r) => {
-                return MemberFound::Refused(r);
-            }
-            MemberFound::Got { member, next } => {
-                kept = newer(i == k, member, kept);
-                last = member;
-                p = next;
-            }
-        }
-        later = true;
-        i += 1;
-        left -= 1;
-    }
-    MemberFound::Got {
-        member: kept,
-        next: p,
-    }
-}
-
 // Two lists of one kind, one after the other.
 fn two_at(s: &[u8], j: Judge, item: usize, from: usize, m: u32, n: u32, k: u32) -> TwoAnswer
     ensures { λ r. ⌜ two-outcome r ≡ keptTwo (now (s .entry)) j item from m n k ⌝ }
 {
-    match members_at(s, j, item, from, m, k) {
+    match class_members::members_at(s, j, item, from, m, k) {
         MemberFound::Refused(r) => TwoAnswer::Refused(r),
         MemberFound::Got {
             member: first,
             next: middle,
-        } => match members_at(s, j, item, middle, n, k) {
+        } => match class_members::members_at(s, j, item, middle, n, k) {
             MemberFound::Refused(r) => TwoAnswer::Refused(r),
             MemberFound::Got {
                 member: second,

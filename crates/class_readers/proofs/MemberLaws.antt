@@ -11,7 +11,7 @@ use Rattle.refusal.specs.Outcome.{Outcome, _>>=_}
 use Rattle.refusal.proofs.Laws.{said, calls}
 use Rattle.access_flags.specs.Flags.{content}
 use Rattle.access_flags.proofs.Laws.{laws as flag-laws}
-use Rattle.class_data.specs.declared.Member.{Member}
+use Rattle.class_members.specs.declared.Member.{Member}
 use Rattle.class_readers.specs.declared.MaybeMember.{MaybeMember}
 use Rattle.class_readers.specs.declared.MaybeMember.the-variants.{Absent, Got, Refused}
 use Rattle.class_readers.specs.Members.{memberNumber, contentOf, memberContent}

@@ -15,7 +15,7 @@ use Rattle.header.specs.Header.{section, frame-of}
 use Rattle.header.proofs.Laws.{laws as header-laws}
 use Rattle.class_ids.proofs.Laws.{laws as class-laws}
 use Rattle.class_data.specs.declared.Counts.{Counts}
-use Rattle.class_data.specs.declared.Member.{Member}
+use Rattle.class_members.specs.declared.Member.{Member}
 use Rattle.class_data.specs.declared.DataAnswer.{DataAnswer}
 use Rattle.class_data.specs.declared.MemberAnswer.{MemberAnswer}
 use Rattle.class_data.specs.Data.{extentAt, memberOf}

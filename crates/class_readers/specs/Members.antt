@@ -7,7 +7,7 @@ use Rattle.refusal.specs.Outcome.{Outcome, answer, refused, _>>=_}
 use Rattle.header.specs.Header.{section, frame-of}
 use Rattle.access_flags.specs.Flags.{written, content}
 use Rattle.class_data.specs.declared.Counts.{Counts}
-use Rattle.class_data.specs.declared.Member.{Member}
+use Rattle.class_members.specs.declared.Member.{Member}
 use Rattle.class_data.specs.Data.{extentAt, memberOf}
 use Rattle.class_readers.specs.declared.Spot.{Spot}
 use Rattle.class_readers.specs.Spots.{onward, dataSpot}

@@ -2,7 +2,7 @@
 // class, its record, then each item on the way, whole, and 7 for the number in it; 19 last. None of them reads the map.
 // A list is 0 for static fields, 1 for instance fields, 2 for direct methods, 3 for virtual methods.
 use class_data::Counts;
-use class_data::Member;
+use class_members::Member;
 use header::Header;
 use refusal::Refusal;
 

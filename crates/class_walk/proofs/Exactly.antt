@@ -11,7 +11,7 @@ use Rattle.header.specs.declared.Header.{Header}
 use Rattle.header.specs.Header.{section, frame-of}
 use Rattle.type_list.proofs.Exactly.{list-exact}
 use Rattle.class_ids.proofs.Exactly.{class-exact}
-use Rattle.class_data.specs.declared.Member.{Member}
+use Rattle.class_members.specs.declared.Member.{Member}
 use Rattle.class_data.proofs.Exactly.{data-exact}
 use Rattle.code_bodies.proofs.Exactly.{code-exact}
 use Rattle.debug_info.proofs.Exactly.{debug-exact}

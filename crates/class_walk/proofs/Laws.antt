@@ -32,15 +32,16 @@ use Rattle.type_list.proofs.Laws.{laws as list-laws}
 use Rattle.class_ids.specs.declared.Class.{Class}
 use Rattle.class_ids.specs.Classes.{classAt}
 use Rattle.class_ids.proofs.Laws.{laws as class-laws}
-use Rattle.class_data.specs.declared.Member.{Member}
+use Rattle.class_members.specs.declared.Member.{Member}
 use Rattle.class_data.specs.declared.Methods.{Methods}
-use Rattle.class_data.specs.declared.MemberFound.{MemberFound}
-use Rattle.class_data.specs.declared.MemberFound.the-variants as F
-use Rattle.class_data.specs.Answers.{found-outcome}
-use Rattle.class_data.specs.Members.{Run, memberAt, stepAt, begin, membersAt, nobody}
+use Rattle.class_members.specs.declared.MemberFound.{MemberFound}
+use Rattle.class_members.specs.declared.MemberFound.the-variants as F
+use Rattle.class_members.specs.Answers.{found-outcome}
+use Rattle.class_members.specs.Members.{Run, memberAt, stepAt, begin, membersAt, nobody}
 use Rattle.class_data.specs.Data.{ClassData, classDataAt, methodsAt, methods-judge}
-use Rattle.class_data.specs.Rules.{ListRule}
-use Rattle.class_data.proofs.Exactly.{list-exact, data-exact}
+use Rattle.class_members.specs.Rules.{ListRule}
+use Rattle.class_members.proofs.Exactly.{list-exact}
+use Rattle.class_data.proofs.Exactly.{data-exact}
 use Rattle.class_data.proofs.Laws.{on-methods}
 use Rattle.code_item.specs.declared.Outline.{Outline}
 use Rattle.code_item.specs.declared.CodeAnswer.{CodeAnswer}

@@ -5,9 +5,9 @@ use mathlib.Core.List.{List}
 use Rattle.refusal.specs.Outcome.{Outcome, answer, _>>=_, present, accepted}
 use Rattle.refusal.specs.Rows.{collect, through, with-below}
 use Rattle.frame.specs.declared.Frame.{Frame}
-use Rattle.class_data.specs.declared.Member.{Member}
+use Rattle.class_members.specs.declared.Member.{Member}
 use Rattle.class_data.specs.declared.Methods.{Methods}
-use Rattle.class_data.specs.Members.{stepAt, begin}
+use Rattle.class_members.specs.Members.{stepAt, begin}
 use Rattle.class_data.specs.Data.{ClassData, classDataAt, methods-judge}
 use Rattle.code_bodies.specs.Code.{Code, codeAt}
 use Rattle.debug_info.specs.Debug.{Debug, debugAt}

@@ -8,7 +8,7 @@ use Rattle.header.specs.declared.Header.{Header}
 use Rattle.header.specs.Header.{section, frame-of}
 use Rattle.type_list.specs.Rules.{ListRule}
 use Rattle.class_ids.specs.Rules.{ClassRule}
-use Rattle.class_data.specs.declared.Member.{Member}
+use Rattle.class_members.specs.declared.Member.{Member}
 use Rattle.class_data.specs.Rules.{DataRule}
 use Rattle.code_bodies.specs.Rules.{CodeRule}
 use Rattle.debug_info.specs.Rules.{DebugRule}

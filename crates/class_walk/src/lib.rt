@@ -1,11 +1,11 @@
 // Going over a class with all that lies below it: own rules first, then the items pointed at, in stored order. Shared items are gone over
 // each time they are reached.
-use class_data::Judge;
-use class_data::Member;
-use class_data::MemberFound;
 use class_data::Methods;
 use class_data::MethodsAnswer;
 use class_ids::ClassAnswer;
+use class_members::Judge;
+use class_members::Member;
+use class_members::MemberFound;
 use code_item::CodeAnswer;
 use debug_info::DebugAnswer;
 use encoded_value::Step;
@@ -85,7 +85,7 @@ fn methods_pass(s: &[u8], f: Frame, item: usize, from: usize, count: u32) -> Pas
     let mut later = false;
     let mut left = count;
     while 0 < left {
-        match class_data::member_found(s, judge, item, last.index, later, p) {
+        match class_members::member_found(s, judge, item, last.index, later, p) {
             MemberFound::Refused(r) => {
                 return Passed::Refused(r);
             }

@@ -18,9 +18,9 @@ use Rattle.value_heads.specs.Readings.{headAt, numberAt, checkedAt}
 use Rattle.encoded_value.specs.Readings.{plainAt, kindWith, valueWith, valueAt}
 use Rattle.decoded_value.specs.Shown.{Shown, is, integer, natural, floating}
 use Rattle.decoded_value.specs.Readings.{decodedAt}
-use Rattle.class_data.specs.declared.Member.{Member}
-use Rattle.class_data.specs.declared.Judge.{Judge}
-use Rattle.class_data.specs.Members as M
+use Rattle.class_members.specs.declared.Member.{Member}
+use Rattle.class_members.specs.declared.Judge.{Judge}
+use Rattle.class_members.specs.Members as M
 
 -- the indices of members
 pub indices : List Member → List ℕ

@@ -12,7 +12,7 @@ use Rattle.refusal.specs.Outcome.{Outcome, answer, _>>=_, given}
 use Rattle.refusal.specs.Exact.{At}
 use Rattle.refusal.proofs.Laws.{bind-answer, passes}
 use Rattle.access_flags.specs.Flags.{flags, written}
-use Rattle.class_data.specs.declared.Member.{Member}
+use Rattle.class_members.specs.declared.Member.{Member}
 use Rattle.class_data.specs.Data.{listOf}
 use Rattle.value_bodies.specs.Bodies.{pick}
 use Rattle.value_bodies.proofs.Picks.{pick-there}

@@ -17,9 +17,9 @@ use Rattle.class_ids.specs.declared.Class.{Class}
 use Rattle.class_ids.specs.declared.Maybe.the-variants.{Number, Absent}
 use Rattle.class_ids.specs.Classes.{maybeOf}
 use Rattle.class_ids.specs.Rules.{IndexOrNone}
-use Rattle.class_data.specs.declared.Member as M
-use Rattle.class_data.specs.declared.Judge.{Judge}
-use Rattle.class_data.specs.Rules.{ListRule}
+use Rattle.class_members.specs.declared.Member as M
+use Rattle.class_members.specs.declared.Judge.{Judge}
+use Rattle.class_members.specs.Rules.{ListRule}
 use Rattle.handlers.specs.declared.Pair.{Pair}
 use Rattle.handlers.specs.Handlers.{Handler, HandlerList}
 use Rattle.handlers.specs.Rules.{HandlersRule}

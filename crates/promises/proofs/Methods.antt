@@ -21,7 +21,7 @@ use Rattle.header.specs.Header.{headerAt, section, frame-of}
 use Rattle.frame.specs.declared.Frame.{Frame}
 use Rattle.value_bodies.specs.Bodies.{pick}
 use Rattle.class_ids.specs.declared.Class.{Class}
-use Rattle.class_data.specs.declared.Member.{Member}
+use Rattle.class_members.specs.declared.Member.{Member}
 use Rattle.class_data.specs.Data.{ClassData, extentAt, one-of-four, listOf, memberOf}
 use Rattle.class_data.specs.Rules.{DataRule}
 use Rattle.class_data.proofs.Exactly.{data-exact}

@@ -12,7 +12,7 @@ use Rattle.header.specs.Header.{section, frame-of}
 use Rattle.value_bodies.specs.Bodies.{pick}
 use Rattle.code_bodies.specs.Code.{Code}
 use Rattle.code_bodies.specs.Rules.{CodeRule}
-use Rattle.class_data.specs.declared.Member.{Member}
+use Rattle.class_members.specs.declared.Member.{Member}
 use Rattle.class_readers.specs.Spots.{onward}
 use Rattle.class_walk.specs.Methods.{Body, DataBelow}
 use Rattle.class_walk.specs.Classes.{ClassBelow}

@@ -13,7 +13,7 @@ use Rattle.text.specs.Text.{Text}
 use Rattle.ids.specs.declared.Member.{Member}
 use Rattle.ids.specs.declared.Handle.{Handle}
 use Rattle.access_flags.specs.Flags.{flags}
-use Rattle.class_data.specs.declared.Member as M
+use Rattle.class_members.specs.declared.Member as M
 use Rattle.class_data.specs.Data.{listOf}
 use Rattle.handlers.specs.declared.Pair.{Pair}
 use Rattle.handlers.specs.Handlers.{Handler}

@@ -8,7 +8,7 @@ use Rattle.ids.specs.declared.Member.{Member}
 use Rattle.ids.specs.declared.Handle.{Handle}
 use Rattle.class_ids.specs.declared.Maybe.{Maybe}
 use Rattle.class_ids.specs.declared.Maybe.the-variants.{Number, Absent}
-use Rattle.class_data.specs.declared.Member as M
+use Rattle.class_members.specs.declared.Member as M
 use Rattle.handlers.specs.declared.Pair.{Pair}
 use Rattle.handlers.specs.Handlers.{Handler}
 use Rattle.debug_info.specs.Debug.{Debug}

@@ -12,7 +12,7 @@ use Rattle.refusal.specs.Exact.{Exact, Sought}
 use Rattle.refusal.specs.Seek.{position}
 use Rattle.access_flags.specs.Flags.{written}
 use Rattle.value_bodies.specs.Bodies.{pick}
-use Rattle.class_data.specs.declared.Member.{Member}
+use Rattle.class_members.specs.declared.Member.{Member}
 use Rattle.class_data.specs.Data.{counts, one-of-four, listOf}
 use Rattle.code_units.specs.Units.{filled}
 use Rattle.code_bodies.specs.declared.Try.{Try}

@@ -4,7 +4,7 @@ use Rattle.class_data.proofs.two_at.Statement.{statement}
 use Rattle.class_data.proofs.two_at.Tie as tie
 use Rattle.class_data.proofs.two_at.Reads as reads
 use Rattle.class_data.proofs.two_at.Lts as lts
-use Rattle.class_data.proofs.members_at.Reads as members-at-reads
+use Rattle.class_members.proofs.members_at.Reads as members-at-reads
 
 -- src/lib.rt:230:11
 members-at-requires : tie.Need-members-at-requires

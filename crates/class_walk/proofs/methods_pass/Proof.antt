@@ -3,7 +3,7 @@ use Rattle.class_walk.proofs.methods_pass.Statement.{statement}
 use Rattle.class_walk.proofs.methods_pass.Tie as tie
 use Rattle.class_walk.proofs.methods_pass.Reads as reads
 use Rattle.class_walk.proofs.methods_pass.Lts as lts
-use Rattle.class_data.proofs.member_found.Reads as member-found-reads
+use Rattle.class_members.proofs.member_found.Reads as member-found-reads
 use Rattle.class_walk.proofs.method_below.Reads as method-below-reads
 
 abbrev Inv-loop : tie.InvT-loop

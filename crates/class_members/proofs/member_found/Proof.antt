@@ -1,11 +1,11 @@
-use Rattle.class_data.proofs.Laws.{part-laws as laws}
-use Rattle.class_data.specs.Members.{memberAt}
-use Rattle.class_data.proofs.member_found.Statement.{statement}
-use Rattle.class_data.proofs.member_found.Tie as tie
-use Rattle.class_data.proofs.member_found.Reads as reads
-use Rattle.class_data.proofs.member_found.Lts as lts
-use Rattle.class_data.proofs.is_apart.Reads as is-apart-reads
-use Rattle.class_data.proofs.rest_at.Reads as rest-at-reads
+use Rattle.class_members.proofs.Laws.{part-laws as laws}
+use Rattle.class_members.specs.Members.{memberAt}
+use Rattle.class_members.proofs.member_found.Statement.{statement}
+use Rattle.class_members.proofs.member_found.Tie as tie
+use Rattle.class_members.proofs.member_found.Reads as reads
+use Rattle.class_members.proofs.member_found.Lts as lts
+use Rattle.class_members.proofs.is_apart.Reads as is-apart-reads
+use Rattle.class_members.proofs.rest_at.Reads as rest-at-reads
 use Rattle.leb128.proofs.uleb.Reads as uleb-reads
 
 -- src/lib.rt:148:11

@@ -9,8 +9,8 @@ use Rattle.refusal.specs.Rows.{Found, collect}
 use Rattle.refusal.specs.Choose.{choose}
 use Rattle.leb128.specs.Leb.{ulebAt}
 use Rattle.frame.specs.Offsets.{allowedOrAbsent}
-use Rattle.class_data.specs.declared.Member.{Member}
-use Rattle.class_data.specs.declared.Judge.{Judge}
+use Rattle.class_members.specs.declared.Member.{Member}
+use Rattle.class_members.specs.declared.Judge.{Judge}
 
 -- "a later difference of 0 is 15"
 unfoldable pub apart : Bool → ℕ → Bool

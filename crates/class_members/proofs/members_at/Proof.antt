@@ -1,10 +1,10 @@
-use Rattle.class_data.proofs.Laws.{Members, loop-laws as laws}
-use Rattle.class_data.proofs.members_at.Statement.{statement}
-use Rattle.class_data.proofs.members_at.Tie as tie
-use Rattle.class_data.proofs.members_at.Reads as reads
-use Rattle.class_data.proofs.members_at.Lts as lts
-use Rattle.class_data.proofs.member_found.Reads as member-found-reads
-use Rattle.class_data.proofs.newer.Reads as newer-reads
+use Rattle.class_members.proofs.Laws.{Members, loop-laws as laws}
+use Rattle.class_members.proofs.members_at.Statement.{statement}
+use Rattle.class_members.proofs.members_at.Tie as tie
+use Rattle.class_members.proofs.members_at.Reads as reads
+use Rattle.class_members.proofs.members_at.Lts as lts
+use Rattle.class_members.proofs.member_found.Reads as member-found-reads
+use Rattle.class_members.proofs.newer.Reads as newer-reads
 
 abbrev Inv-loop : tie.InvT-loop
 Inv-loop s j item from count k p₀ last₀ later₀ kept₀ i₀ left₀ p last later kept i left = Members s j item from count k left p last later i kept

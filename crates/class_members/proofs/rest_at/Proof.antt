@@ -1,10 +1,10 @@
-use Rattle.class_data.proofs.Laws.{part-laws as laws}
-use Rattle.class_data.specs.Members.{restAt}
-use Rattle.class_data.proofs.rest_at.Statement.{statement}
-use Rattle.class_data.proofs.rest_at.Tie as tie
-use Rattle.class_data.proofs.rest_at.Reads as reads
-use Rattle.class_data.proofs.rest_at.Lts as lts
-use Rattle.class_data.proofs.code_at.Reads as code-at-reads
+use Rattle.class_members.proofs.Laws.{part-laws as laws}
+use Rattle.class_members.specs.Members.{restAt}
+use Rattle.class_members.proofs.rest_at.Statement.{statement}
+use Rattle.class_members.proofs.rest_at.Tie as tie
+use Rattle.class_members.proofs.rest_at.Reads as reads
+use Rattle.class_members.proofs.rest_at.Lts as lts
+use Rattle.class_members.proofs.code_at.Reads as code-at-reads
 use Rattle.leb128.proofs.uleb.Reads as uleb-reads
 
 -- src/lib.rt:122:11

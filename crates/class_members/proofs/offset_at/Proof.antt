@@ -1,9 +1,9 @@
-use Rattle.class_data.proofs.Laws.{part-laws as laws}
-use Rattle.class_data.specs.Members.{offsetAt}
-use Rattle.class_data.proofs.offset_at.Statement.{statement}
-use Rattle.class_data.proofs.offset_at.Tie as tie
-use Rattle.class_data.proofs.offset_at.Reads as reads
-use Rattle.class_data.proofs.offset_at.Lts as lts
+use Rattle.class_members.proofs.Laws.{part-laws as laws}
+use Rattle.class_members.specs.Members.{offsetAt}
+use Rattle.class_members.proofs.offset_at.Statement.{statement}
+use Rattle.class_members.proofs.offset_at.Tie as tie
+use Rattle.class_members.proofs.offset_at.Reads as reads
+use Rattle.class_members.proofs.offset_at.Lts as lts
 use Rattle.frame.proofs.is_allowed_or_absent.Reads as is-allowed-or-absent-reads
 use Rattle.leb128.proofs.uleb.Reads as uleb-reads
 
