@@ -88,7 +88,7 @@ fn pair(a: PairAnswer) -> MaybePair {
     }
 }
 
-pub fn row(s: &[u8], kind: u8, f: Frame, item: usize, b: u32, c: u32) -> [u64; 20] {
+pub(crate) fn row(s: &[u8], kind: u8, f: Frame, item: usize, b: u32, c: u32) -> [u64; 20] {
     if kind == 16 {
         return answer_rows::debug_row(debug(debug_info::debug_at(s, f.strings, item)));
     }
@@ -101,14 +101,14 @@ pub fn row(s: &[u8], kind: u8, f: Frame, item: usize, b: u32, c: u32) -> [u64; 2
     answer_rows::found_row(member(class_data::member_at(s, f, item, b, c)))
 }
 
-pub fn code_row(s: &[u8], kind: u8, f: Frame, item: usize, b: u32) -> [u64; 20] {
+pub(crate) fn code_row(s: &[u8], kind: u8, f: Frame, item: usize, b: u32) -> [u64; 20] {
     if kind == 20 {
         return answer_rows::code_row(code(code_item::code_at(s, f, item)));
     }
     answer_rows::try_row(attempt(code_item::try_at(s, f, item, b)))
 }
 
-pub fn handler_row(s: &[u8], kind: u8, f: Frame, item: usize, b: u32, c: u32) -> [u64; 20] {
+pub(crate) fn handler_row(s: &[u8], kind: u8, f: Frame, item: usize, b: u32, c: u32) -> [u64; 20] {
     if kind == 22 {
         return answer_rows::handler_row(handler(code_item::handler_at(s, f, item, b)));
     }

@@ -19,7 +19,7 @@ fn directory(h: HeadAnswer) -> DirectoryAnswer {
     }
 }
 
-pub fn row(s: &[u8], kind: u8, f: Frame, item: usize, k: u32) -> [u64; 20] {
+pub(crate) fn row(s: &[u8], kind: u8, f: Frame, item: usize, k: u32) -> [u64; 20] {
     if kind == 32 {
         return answer_rows::word_row(visibility(annotation_items::annotation_item(s, f, item)));
     }
@@ -29,7 +29,7 @@ pub fn row(s: &[u8], kind: u8, f: Frame, item: usize, k: u32) -> [u64; 20] {
     answer_rows::element_row(annotation_items::annotation_element(s, f, item, k))
 }
 
-pub fn list_row(s: &[u8], kind: u8, f: Frame, item: usize, k: u32) -> [u64; 20] {
+pub(crate) fn list_row(s: &[u8], kind: u8, f: Frame, item: usize, k: u32) -> [u64; 20] {
     if kind == 35 {
         return answer_rows::word_row(annotation_lists::set_count(s, f, item));
     }
@@ -43,14 +43,21 @@ pub fn list_row(s: &[u8], kind: u8, f: Frame, item: usize, k: u32) -> [u64; 20] 
 }
 
 // A directory, and entry k of one of its lists.
-pub fn directory_row(s: &[u8], kind: u8, f: Frame, item: usize, list: u32, k: u32) -> [u64; 20] {
+pub(crate) fn directory_row(
+    s: &[u8],
+    kind: u8,
+    f: Frame,
+    item: usize,
+    list: u32,
+    k: u32,
+) -> [u64; 20] {
     if kind == 39 {
         return answer_rows::directory_row(directory(annotation_directories::directory(s, f, item)));
     }
     answer_rows::place_row(annotation_directories::directory_entry(s, f, item, list, k))
 }
 
-pub fn check_row(s: &[u8], kind: u8, f: Frame, item: usize) -> [u64; 20] {
+pub(crate) fn check_row(s: &[u8], kind: u8, f: Frame, item: usize) -> [u64; 20] {
     if kind == 41 {
         return answer_rows::checked_row(annotation_walk::check_set(s, f, item));
     }

@@ -10,11 +10,11 @@ use text_order::Order;
 use value_bodies::Picked;
 
 // An answer of four words, and a refusal.
-pub fn four(a: u64, b: u64, c: u64, d: u64) -> [u64; 20] {
+pub(crate) fn four(a: u64, b: u64, c: u64, d: u64) -> [u64; 20] {
     [0, a, b, c, d, 0, 0, 0, 0, 0, 0, 0, 0, 0, 0, 0, 0, 0, 0, 0]
 }
 
-pub fn refused(r: Refusal) -> [u64; 20] {
+pub(crate) fn refused(r: Refusal) -> [u64; 20] {
     answer_rows::size_row(value_bodies::Count::Refused(r))
 }
 
@@ -59,7 +59,7 @@ fn order(a: &[u8], b: &[u8]) -> [u64; 20] {
 }
 
 // An item at b, whose number is at a; of two texts the first has a bytes, the second b.
-pub fn row(s: &[u8], kind: u8, a: usize, b: usize) -> [u64; 20] {
+pub(crate) fn row(s: &[u8], kind: u8, a: usize, b: usize) -> [u64; 20] {
     if kind == 0 {
         return unsigned(s, a, b);
     }
@@ -75,7 +75,7 @@ pub fn row(s: &[u8], kind: u8, a: usize, b: usize) -> [u64; 20] {
     order(word::bytes_at(s, 0, a), word::bytes_at(s, a, b))
 }
 
-pub fn written_row(a: UnitsAnswer) -> [u64; 20] {
+pub(crate) fn written_row(a: UnitsAnswer) -> [u64; 20] {
     match a {
         UnitsAnswer::Refused(r) => answer_rows::written_row(MaybeCount::Refused(r)),
         UnitsAnswer::Written(n) => answer_rows::written_row(MaybeCount::Got(n as usize)),

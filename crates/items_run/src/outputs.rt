@@ -3,7 +3,7 @@ use super::numbers;
 use super::printing;
 use word::Endian;
 
-pub fn flags(value: u32, class: bool, out: &mut [u8], room: usize, mask: u32) {
+pub(crate) fn flags(value: u32, class: bool, out: &mut [u8], room: usize, mask: u32) {
     if out.len() < room {
         return;
     }
@@ -12,7 +12,7 @@ pub fn flags(value: u32, class: bool, out: &mut [u8], room: usize, mask: u32) {
     printing::bytes(out);
 }
 
-pub fn units(
+pub(crate) fn units(
     s: &[u8],
     order: Endian,
     start: usize,

@@ -137,7 +137,7 @@ fn all(s: &[u8], f: Frame, asked: &[u8]) {
 }
 
 // A label, what the items are read against, their bytes and questions, one behind the other.
-pub fn about(s: &[u8], size: usize, label: u16, length: u16) {
+pub(crate) fn about(s: &[u8], size: usize, label: u16, length: u16) {
     let frame = label as usize;
     let start = frame + 16;
     let from = start + length as usize;

@@ -79,7 +79,7 @@ fn head(s: &[u8], w: Walk, at: usize) -> [u64; 20] {
 }
 
 // At a place, with so many bodies left to go into, or the number of a value.
-pub fn row(s: &[u8], kind: u8, w: Walk, at: usize, k: u32) -> [u64; 20] {
+pub(crate) fn row(s: &[u8], kind: u8, w: Walk, at: usize, k: u32) -> [u64; 20] {
     if kind == 8 {
         return decoded(s, w, at, k);
     }

@@ -1,5 +1,5 @@
 // Readers 16 to 18: classes and their interfaces; 19 to 22: class data, members and static values.
-pub fn row(f: &[u8], reader: u8, a: u32, b: u32) -> [u64; 20] {
+pub(crate) fn row(f: &[u8], reader: u8, a: u32, b: u32) -> [u64; 20] {
     if reader == 16 {
         return answer_rows::class_row(dex::class(f, a));
     }
@@ -9,7 +9,7 @@ pub fn row(f: &[u8], reader: u8, a: u32, b: u32) -> [u64; 20] {
     answer_rows::listed_row(dex::interface(f, a, b))
 }
 
-pub fn data_row(f: &[u8], reader: u8, a: u32, b: u32, c: u32) -> [u64; 20] {
+pub(crate) fn data_row(f: &[u8], reader: u8, a: u32, b: u32, c: u32) -> [u64; 20] {
     if reader == 19 {
         return answer_rows::data_row(dex::class_data(f, a));
     }

@@ -1,5 +1,5 @@
 // Readers 24 to 27: the code of member c of list b of class a, with its tries; 28 to 31: its handlers and debug information.
-pub fn row(f: &[u8], reader: u8, a: u32, b: u32, c: u32, d: u32) -> [u64; 20] {
+pub(crate) fn row(f: &[u8], reader: u8, a: u32, b: u32, c: u32, d: u32) -> [u64; 20] {
     if reader == 24 {
         return answer_rows::code_row(dex::code(f, a, b, c));
     }
@@ -12,7 +12,15 @@ pub fn row(f: &[u8], reader: u8, a: u32, b: u32, c: u32, d: u32) -> [u64; 20] {
     answer_rows::written_row(dex::handler_count(f, a, b, c))
 }
 
-pub fn handler_row(f: &[u8], reader: u8, a: u32, b: u32, c: u32, d: u32, e: u32) -> [u64; 20] {
+pub(crate) fn handler_row(
+    f: &[u8],
+    reader: u8,
+    a: u32,
+    b: u32,
+    c: u32,
+    d: u32,
+    e: u32,
+) -> [u64; 20] {
     if reader == 28 {
         return answer_rows::handler_row(dex::handler(f, a, b, c, d));
     }

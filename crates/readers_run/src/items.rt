@@ -2,7 +2,7 @@
 use super::notes;
 use super::values;
 
-pub fn row(f: &[u8], reader: u8, a: u32, b: u32, c: u32, d: u32, e: u32) -> [u64; 20] {
+pub(crate) fn row(f: &[u8], reader: u8, a: u32, b: u32, c: u32, d: u32, e: u32) -> [u64; 20] {
     let found = notes::place_row(f, reader % 4, a, b, c, d);
     let place = found[1] as usize;
     if reader < 60 {

@@ -1,5 +1,5 @@
 // Readers 32 to 36: the annotation directory of class a and its entries; 40 to 47: the annotations of a set.
-pub fn row(f: &[u8], reader: u8, a: u32, b: u32) -> [u64; 20] {
+pub(crate) fn row(f: &[u8], reader: u8, a: u32, b: u32) -> [u64; 20] {
     if reader == 33 {
         return answer_rows::place_row(dex::field_entry(f, a, b));
     }
@@ -16,7 +16,7 @@ pub fn row(f: &[u8], reader: u8, a: u32, b: u32) -> [u64; 20] {
 }
 
 // How many there are: of the class (40), of entry b of its fields (41) or methods (42), of parameter c of entry b (43).
-pub fn count_row(f: &[u8], reader: u8, a: u32, b: u32, c: u32) -> [u64; 20] {
+pub(crate) fn count_row(f: &[u8], reader: u8, a: u32, b: u32, c: u32) -> [u64; 20] {
     if reader == 41 {
         return answer_rows::word_row(dex::field_annotation_count(f, a, b));
     }
@@ -30,7 +30,7 @@ pub fn count_row(f: &[u8], reader: u8, a: u32, b: u32, c: u32) -> [u64; 20] {
 }
 
 // Where annotation d is, of the class (0), of entry b of its fields (1) or methods (2), of parameter c of entry b (3).
-pub fn place_row(f: &[u8], of: u8, a: u32, b: u32, c: u32, d: u32) -> [u64; 20] {
+pub(crate) fn place_row(f: &[u8], of: u8, a: u32, b: u32, c: u32, d: u32) -> [u64; 20] {
     if of == 1 {
         return answer_rows::word_row(dex::field_annotation_place(f, a, b, d));
     }

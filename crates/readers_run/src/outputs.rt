@@ -2,13 +2,13 @@
 use super::printing;
 
 // Which member of which list of which class is asked about.
-pub struct Member {
+pub(crate) struct Member {
     pub class: u32,
     pub list: u32,
     pub number: u32,
 }
 
-pub fn part(f: &[u8], reader: u8, a: u32, b: u32, c: u32) {
+pub(crate) fn part(f: &[u8], reader: u8, a: u32, b: u32, c: u32) {
     if reader == 64 {
         printing::bytes(dex::signature(f));
     } else if reader == 65 {
@@ -18,7 +18,7 @@ pub fn part(f: &[u8], reader: u8, a: u32, b: u32, c: u32) {
     }
 }
 
-pub fn sought(f: &[u8], text: &[u8], mask: u32) {
+pub(crate) fn sought(f: &[u8], text: &[u8], mask: u32) {
     printing::words(answer_rows::lookup_row(dex::find_string(f, text)), mask);
 }
 
@@ -50,7 +50,7 @@ fn units(f: &[u8], m: Member, out: &mut [u16], room: usize, mask: u32) {
     printing::units(out);
 }
 
-pub fn output(f: &[u8], reader: u8, m: Member, room: usize, mask: u32) {
+pub(crate) fn output(f: &[u8], reader: u8, m: Member, room: usize, mask: u32) {
     let mut flags = [77u8; 18];
     let mut code = [77u16; 8];
     if reader == 68 {

@@ -1,5 +1,5 @@
 // Numbers, each with a space behind it.
-pub fn number(n: u64) {
+pub(crate) fn number(n: u64) {
     io::print_decimal(1, n);
     io::write_all(1, b" ");
 }
@@ -12,7 +12,7 @@ fn unit(u: u16) {
     number(u as u64);
 }
 
-pub fn bytes(s: &[u8]) {
+pub(crate) fn bytes(s: &[u8]) {
     let mut i = 0;
     while i < s.len() {
         byte(s[i]);
@@ -20,7 +20,7 @@ pub fn bytes(s: &[u8]) {
     }
 }
 
-pub fn units(s: &[u16]) {
+pub(crate) fn units(s: &[u16]) {
     let mut i = 0;
     while i < s.len() {
         unit(s[i]);
@@ -29,7 +29,7 @@ pub fn units(s: &[u16]) {
 }
 
 // The words of a row whose bits are set, the lowest first.
-pub fn words(row: [u64; 20], mask: u32) {
+pub(crate) fn words(row: [u64; 20], mask: u32) {
     let mut bits = mask;
     let mut i: usize = 0;
     while i < 20 {

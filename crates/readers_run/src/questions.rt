@@ -143,7 +143,7 @@ fn all(f: &[u8], s: &[u8]) {
 }
 
 // A label, a file and questions, one behind the other.
-pub fn about(s: &[u8], size: usize, label: u16, length: u16) {
+pub(crate) fn about(s: &[u8], size: usize, label: u16, length: u16) {
     let start = label as usize;
     let from = start + length as usize;
     io::write_all(1, word::bytes_at(s, 0, start));

@@ -1,5 +1,5 @@
 // Readers 8 to 11: strings, types, protos and the number of their parameters; 12 to 14: parameters, fields and methods.
-pub fn row(f: &[u8], reader: u8, a: u32) -> [u64; 20] {
+pub(crate) fn row(f: &[u8], reader: u8, a: u32) -> [u64; 20] {
     if reader == 8 {
         return answer_rows::text_row(dex::string(f, a));
     }
@@ -12,7 +12,7 @@ pub fn row(f: &[u8], reader: u8, a: u32) -> [u64; 20] {
     answer_rows::list_row(dex::parameter_count(f, a))
 }
 
-pub fn member_row(f: &[u8], reader: u8, a: u32, b: u32) -> [u64; 20] {
+pub(crate) fn member_row(f: &[u8], reader: u8, a: u32, b: u32) -> [u64; 20] {
     if reader == 12 {
         return answer_rows::listed_row(dex::parameter(f, a, b));
     }

@@ -1,5 +1,5 @@
 // Readers 48 to 53: the body or the annotation item at a place.
-pub fn row(f: &[u8], reader: u8, place: usize, k: u32) -> [u64; 20] {
+pub(crate) fn row(f: &[u8], reader: u8, place: usize, k: u32) -> [u64; 20] {
     if reader == 49 {
         return answer_rows::picked_row(dex::array_value(f, place, k));
     }
@@ -37,7 +37,7 @@ fn step_row(f: &[u8], v: [u64; 20], k: u8) -> [u64; 20] {
 }
 
 // Along a path of such steps.
-pub fn inner_row(f: &[u8], start: [u64; 20], path: &[u8]) -> [u64; 20] {
+pub(crate) fn inner_row(f: &[u8], start: [u64; 20], path: &[u8]) -> [u64; 20] {
     let mut at = start;
     let mut i: usize = 0;
     while i < path.len() {

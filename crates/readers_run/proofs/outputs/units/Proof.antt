@@ -4,7 +4,7 @@ use Rattle.readers_run.proofs.outputs.units.Tie as tie
 use Rattle.readers_run.proofs.outputs.units.Reads as reads
 use Rattle.readers_run.proofs.outputs.units.Lts as lts
 use Rattle.answer_rows.proofs.written_row.Reads as written-row-reads
-use Rattle.class_readers.proofs.units.Reads as methods-units-reads
+use Rattle.code_readers.proofs.units.Reads as methods-units-reads
 use Rattle.readers_run.proofs.printing.units.Reads as printing-units-reads
 use Rattle.readers_run.proofs.printing.words.Reads as words-reads
 
