@@ -262,6 +262,45 @@ module _ (s : List ℕ) (item at : ℕ) where
           let f = b .scale-is in
           sleb-out (b .fifth-is .minus-high (omega arith) (omega arith))
 
+-- ---- a number of one byte, before anything is weighed
+weight-one : (b : ℕ) → b < 128 → weight (b ∷ []) ≡ b
+unfolding weight
+weight-one b h = omega arith
+
+scale-one : (b : ℕ) → scale (b ∷ []) ≡ 128
+unfolding scale
+scale-one b = refl
+
+module _ (s : List ℕ) (item at : ℕ) (h : at < length s) where
+  pub uleb-one : getD s at 0 < 128 → answer (record { item = getD s at 0; next = at + 1 }) ≡ ulebAt s item at
+  unfolding ulebAt
+  uleb-one q =
+      let w = weight-one (getD s at 0) q in
+      sym (bind-answer _ (bytes-last s item at 5 (omega arith) h q) ∙ sym (passes 10 item (le-leb 0 0x0f (omega arith)) (λ i. answer (record { item = sym w i; next = at + 1 }))))
+
+  sleb-byte : (z : ℤ) → getD s at 0 < 128 → z ≡ signed (getD s at 0 ∷ []) → answer (record { item = z; next = at + 1 }) ≡ slebAt s item at
+  unfolding slebAt
+  sleb-byte z q e =
+      sym (bind-answer _ (bytes-last s item at 5 (omega arith) h q) ∙ sym (passes 10 item (one-of (at-most 0 0x07) (at-most 0x78 0) .complete (inl (omega arith))) (λ i. answer (record { item = e i; next = at + 1 }))))
+
+  pub sleb-one : getD s at 0 < 64 → answer (record { item = toZ w32 (getD s at 0); next = at + 1 }) ≡ slebAt s item at
+  sleb-one q =
+      let b = getD s at 0 in
+      let w = weight-one b (omega arith) in
+      let f = scale-one b in
+      sleb-byte (toZ w32 b) (omega arith) (toZ-pos w32 b (omega arith) ∙ ap pos (sym w) ∙ sym (signed-plus (b ∷ []) (omega arith)))
+
+  pub sleb-below : 64 ≤ getD s at 0 → getD s at 0 < 128 → answer (record { item = toZ w32 (ofZ w32 (negsuc 0 -ℤ toZ w32 (127 - getD s at 0))); next = at + 1 }) ≡ slebAt s item at
+  sleb-below p q =
+      let b = getD s at 0 in
+      let w = weight-one b q in
+      let f = scale-one b in
+      let same : 127 - b ≡ scale (b ∷ []) - weight (b ∷ []) - 1 = omega arith in
+      sleb-byte _ q (minus-back (127 - b) (omega arith) ∙ ap negsuc same ∙ sym (signed-minus (b ∷ []) (omega arith)))
+
+  pub byte-minus : SFits w32 (negsuc 0 -ℤ toZ w32 (127 - getD s at 0))
+  byte-minus = minus-fits (127 - getD s at 0) (omega arith)
+
 -- ---- a plus-one number
 abbrev read : Option ℕ → ℕ → Outcome (Found (Option ℕ) ℕ)
 read o n = answer (record { item = o; next = n })
@@ -325,9 +364,9 @@ on-plus-one = said plus-one-outcome
 -- what this crate's functions are searched with
 pub ruleset weighing-laws = (head-first, head-end, head-last, head-more, head-full, fits-part, fits-sum, fits-scale, needs)
 
-pub ruleset uleb-laws = (uleb-refused, uleb-got, uleb-high, needs)
+pub ruleset uleb-laws = (uleb-one, uleb-refused, uleb-got, uleb-high, needs)
 
-pub ruleset sleb-laws = (sleb-refused, sleb-plus, sleb-over, sleb-minus, sleb-under, fits-twice, below-scale, some-left, fits-minus, needs)
+pub ruleset sleb-laws = (sleb-one, sleb-below, byte-minus, sleb-refused, sleb-plus, sleb-over, sleb-minus, sleb-under, fits-twice, below-scale, some-left, fits-minus, needs)
 
 pub ruleset plus-one-laws = (on-leb, plus-some, plus-none, calls, needs)
 

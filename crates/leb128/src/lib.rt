@@ -62,10 +62,19 @@ fn weigh(s: &[u8], at: usize, item: usize) -> Weighed
     })
 }
 
-// An unsigned number.
+// An unsigned number. Most have one byte, which is the number: that case comes first and calls nothing.
 pub fn uleb(s: &[u8], at: usize, item: usize) -> Leb
     ensures { λ r. ⌜ leb-outcome r ≡ ulebAt (now (s .entry)) item at ⌝ }
 {
+    if at < s.len() {
+        let only = s[at];
+        if only < 128 {
+            return Leb::Got {
+                value: only as u32,
+                next: at + 1,
+            };
+        }
+    }
     match weigh(s, at, item) {
         Weighed::Refused(r) => Leb::Refused(r),
         Weighed::Got {
@@ -87,10 +96,26 @@ pub fn uleb(s: &[u8], at: usize, item: usize) -> Leb
     }
 }
 
-// A signed number: what was read, less the scale where the highest bit read is set.
+// A signed number: what was read, less the scale where the highest bit read is set. One byte comes first here too.
 pub fn sleb(s: &[u8], at: usize, item: usize) -> SignedLeb
     ensures { λ r. ⌜ signed-outcome r ≡ slebAt (now (s .entry)) item at ⌝ }
 {
+    if at < s.len() {
+        let only = s[at];
+        if only < 64 {
+            return SignedLeb::Got {
+                value: only as i32,
+                next: at + 1,
+            };
+        }
+        if only < 128 {
+            let low = (127 - only) as i32;
+            return SignedLeb::Got {
+                value: -1 - low,
+                next: at + 1,
+            };
+        }
+    }
     match weigh(s, at, item) {
         Weighed::Refused(r) => SignedLeb::Refused(r),
         Weighed::Got { value, scale, next } => {
