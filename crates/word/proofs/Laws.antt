@@ -80,18 +80,24 @@ u32-small Big a b c d p q r t = omega arith
 -- ---- what the functions' proofs cite
 -- a word by the order that was matched
 module _ (o : Endian) (a b : ℕ) where
-  pub u16-little : o ≡ Little → a + 256 * b ≡ u16Of o a b
+  u16-little : o ≡ Little → a + 256 * b ≡ u16Of o a b
   unfolding u16Of
   u16-little e = rw e
+
+  pub u16-summed : {r : ℕ} → o ≡ Little → r ≡ a + 256 * b → r ≡ u16Of o a b
+  u16-summed e h = h ∙ u16-little e
 
   pub u16-big : o ≡ Big → 256 * a + b ≡ u16Of o a b
   unfolding u16Of
   u16-big e = rw e
 
   module _ (c d : ℕ) where
-    pub u32-little : o ≡ Little → a + 256 * b + 65536 * c + 16777216 * d ≡ u32Of o a b c d
+    u32-little : o ≡ Little → a + 256 * b + 65536 * c + 16777216 * d ≡ u32Of o a b c d
     unfolding u32Of
     u32-little e = rw e
+
+    pub u32-summed : {r : ℕ} → o ≡ Little → r ≡ a + 256 * b + 65536 * c + 16777216 * d → r ≡ u32Of o a b c d
+    u32-summed e h = h ∙ u32-little e
 
     pub u32-big : o ≡ Big → 16777216 * a + 65536 * b + 256 * c + d ≡ u32Of o a b c d
     unfolding u32Of
@@ -107,6 +113,16 @@ pub u32-by : (o : Endian) (s : List ℕ) (at : ℕ) {b c d r : ℕ} → b ≡ ge
 unfolding u32At
 u32-by o s at e f g h = rw (← e, ← f, ← g) h
 
+-- a word that lies inside, the low byte first
+pub u16-inside : (o : Endian) (s : List ℕ) (at : ℕ) {r : ℕ} → o ≡ Little → r ≡ getD s at 0 + 256 * getD s (at + 1) 0 → r ≡ u16At o s at
+unfolding u16At
+u16-inside o s at e h = u16-summed o (getD s at 0) (getD s (at + 1) 0) e h
+
+pub u32-inside : (o : Endian) (s : List ℕ) (at : ℕ) {r : ℕ} → o ≡ Little
+    → r ≡ getD s at 0 + 256 * getD s (at + 1) 0 + 65536 * getD s (at + 2) 0 + 16777216 * getD s (at + 3) 0 → r ≡ u32At o s at
+unfolding u32At
+u32-inside o s at e h = u32-summed o (getD s at 0) (getD s (at + 1) 0) (getD s (at + 2) 0) (getD s (at + 3) 0) e h
+
 pub u16-past : (o : Endian) (s : List ℕ) (at : ℕ) → length s ≤ at → 0 ≡ u16At o s at
 unfolding u16At u16Of
 u16-past Little s at h = omega (arith, byte-past s at h, byte-past s (at + 1) (omega arith))
@@ -117,4 +133,4 @@ unfolding u32At u32Of
 u32-past Little s at h = omega (arith, byte-past s at h, byte-past s (at + 1) (omega arith), byte-past s (at + 2) (omega arith), byte-past s (at + 3) (omega arith))
 u32-past Big s at h = omega (arith, byte-past s at h, byte-past s (at + 1) (omega arith), byte-past s (at + 2) (omega arith), byte-past s (at + 3) (omega arith))
 
-pub ruleset laws = (byte-past, part-none, part-short, part-there, u16-little, u16-big, u32-little, u32-big, u16-by, u32-by, u16-past, u32-past, needs)
+pub ruleset laws = (byte-past, part-none, part-short, part-there, u16-summed, u16-big, u32-summed, u32-big, u16-by, u32-by, u16-inside, u32-inside, u16-past, u32-past, needs)

@@ -1,5 +1,6 @@
 // Bytes and words at a place of a file, in either byte order. Each reading is total: past the end a byte reads as 0.
 ghost use mathlib.Core.Path.{_≡_};
+ghost use Prim.Native.Nat.{_+_, _*_};
 ghost use lib.ListN.{getD};
 ghost use Rattle.word.specs.Bytes.{part};
 ghost use Rattle.word.specs.Words.{u16Of, u32Of, u16At, u32At};
@@ -34,12 +35,26 @@ pub fn bytes_at(s: &[u8], start: usize, length: usize) -> &[u8]
     &s[start..end]
 }
 
+// Two bytes as one number, the low one first.
+fn u16_low_first(a: u8, b: u8) -> u16
+    ensures { λ r. ⌜ r ≡ a + 256 * b ⌝ }
+{
+    a as u16 + 256 * b as u16
+}
+
+// Four bytes as one number, the lowest first.
+fn u32_low_first(a: u8, b: u8, c: u8, d: u8) -> u32
+    ensures { λ r. ⌜ r ≡ a + 256 * b + 65536 * c + 16777216 * d ⌝ }
+{
+    a as u32 + 256 * b as u32 + 65536 * c as u32 + 16777216 * d as u32
+}
+
 // Two bytes as one number.
 pub fn u16_of(order: Endian, a: u8, b: u8) -> u16
     ensures { λ r. ⌜ r ≡ u16Of order a b ⌝ }
 {
     match order {
-        Endian::Little => a as u16 + 256 * b as u16,
+        Endian::Little => u16_low_first(a, b),
         Endian::Big => 256 * a as u16 + b as u16,
     }
 }
@@ -49,13 +64,13 @@ pub fn u32_of(order: Endian, a: u8, b: u8, c: u8, d: u8) -> u32
     ensures { λ r. ⌜ r ≡ u32Of order a b c d ⌝ }
 {
     match order {
-        Endian::Little => a as u32 + 256 * b as u32 + 65536 * c as u32 + 16777216 * d as u32,
+        Endian::Little => u32_low_first(a, b, c, d),
         Endian::Big => 16777216 * a as u32 + 65536 * b as u32 + 256 * c as u32 + d as u32,
     }
 }
 
-// The two bytes at a place as one number.
-pub fn u16_at(s: &[u8], at: usize, order: Endian) -> u16
+// The two bytes at a place as one number, each looked for by itself.
+fn u16_by_bytes(s: &[u8], at: usize, order: Endian) -> u16
     ensures { λ r. ⌜ r ≡ u16At order (now (s .entry)) at ⌝ }
 {
     if s.len() <= at {
@@ -64,8 +79,8 @@ pub fn u16_at(s: &[u8], at: usize, order: Endian) -> u16
     u16_of(order, s[at], byte_at(s, at + 1))
 }
 
-// The four bytes at a place as one number.
-pub fn u32_at(s: &[u8], at: usize, order: Endian) -> u32
+// The four bytes at a place as one number, each looked for by itself.
+fn u32_by_bytes(s: &[u8], at: usize, order: Endian) -> u32
     ensures { λ r. ⌜ r ≡ u32At order (now (s .entry)) at ⌝ }
 {
     if s.len() <= at {
@@ -78,4 +93,39 @@ pub fn u32_at(s: &[u8], at: usize, order: Endian) -> u32
         byte_at(s, at + 2),
         byte_at(s, at + 3),
     )
+}
+
+// The two bytes at a place as one number. Most files are little-endian and most words lie inside: there one test serves both bytes and they are
+// one load. The order is asked for before any byte is read, or the compiler does not join the reads.
+pub fn u16_at(s: &[u8], at: usize, order: Endian) -> u16
+    ensures { λ r. ⌜ r ≡ u16At order (now (s .entry)) at ⌝ }
+{
+    match order {
+        Endian::Big => u16_by_bytes(s, at, order),
+        Endian::Little => {
+            if 2 <= s.len() {
+                if at <= s.len() - 2 {
+                    return u16_low_first(s[at], s[at + 1]);
+                }
+            }
+            u16_by_bytes(s, at, order)
+        }
+    }
+}
+
+// The four bytes at a place as one number, as two are.
+pub fn u32_at(s: &[u8], at: usize, order: Endian) -> u32
+    ensures { λ r. ⌜ r ≡ u32At order (now (s .entry)) at ⌝ }
+{
+    match order {
+        Endian::Big => u32_by_bytes(s, at, order),
+        Endian::Little => {
+            if 4 <= s.len() {
+                if at <= s.len() - 4 {
+                    return u32_low_first(s[at], s[at + 1], s[at + 2], s[at + 3]);
+                }
+            }
+            u32_by_bytes(s, at, order)
+        }
+    }
 }

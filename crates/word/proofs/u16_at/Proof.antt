@@ -3,40 +3,70 @@ use Rattle.word.proofs.u16_at.Statement.{statement}
 use Rattle.word.proofs.u16_at.Tie as tie
 use Rattle.word.proofs.u16_at.Reads as reads
 use Rattle.word.proofs.u16_at.Lts as lts
-use Rattle.word.proofs.byte_at.Reads as byte-at-reads
-use Rattle.word.proofs.u16_of.Reads as u16-of-reads
+use Rattle.word.proofs.u16_by_bytes.Reads as u16-by-bytes-reads
+use Rattle.word.proofs.u16_low_first.Reads as u16-low-first-reads
 
--- src/lib.rt:62:9
+-- src/lib.rt:104:24
+enum-told : tie.Need-enum-told
+enum-told c = search laws
+
+-- src/lib.rt:104:24
+u16-by-bytes-requires : tie.Need-u16-by-bytes-requires
+u16-by-bytes-requires c κs = search laws
+
+-- src/lib.rt:106:21
+enum-told-2 : tie.Need-enum-told-2
+enum-told-2 c = search laws
+
+-- src/lib.rt:107:26
+sub-if2 : tie.Need-sub-if2
+sub-if2 c = search laws
+
+-- src/lib.rt:108:42
+shared-slice-read-u16-low-first : tie.Need-shared-slice-read-u16-low-first
+shared-slice-read-u16-low-first c = search laws
+
+-- src/lib.rt:108:51
+add-u16-low-first : tie.Need-add-u16-low-first
+add-u16-low-first c = search laws
+
+-- src/lib.rt:108:49
+shared-slice-read-u16-low-first-2 : tie.Need-shared-slice-read-u16-low-first-2
+shared-slice-read-u16-low-first-2 c = search laws
+
+-- src/lib.rt:108:21
+u16-low-first-requires : tie.Need-u16-low-first-requires
+u16-low-first-requires c κs = search laws
+
+-- src/lib.rt:108:21
 returns : tie.Need-returns
 returns c = search laws
 
--- src/lib.rt:64:19
-shared-slice-read-u16-of : tie.Need-shared-slice-read-u16-of
-shared-slice-read-u16-of c = search laws
+-- src/lib.rt:111:13
+u16-by-bytes-requires-2 : tie.Need-u16-by-bytes-requires-2
+u16-by-bytes-requires-2 c κs = search laws
 
--- src/lib.rt:64:37
-add-byte-at : tie.Need-add-byte-at
-add-byte-at c = search laws
-
--- src/lib.rt:64:26
-byte-at-requires : tie.Need-byte-at-requires
-byte-at-requires c κs = search laws
-
--- src/lib.rt:64:5
-u16-of-requires : tie.Need-u16-of-requires
-u16-of-requires c κs = search laws
-
--- src/lib.rt:58:1
+-- src/lib.rt:100:1
 returns-2 : tie.Need-returns-2
 returns-2 c = search laws
+
+-- src/lib.rt:100:1
+returns-3 : tie.Need-returns-3
+returns-3 c = search laws
 
 pub u16-at-spec : {M : Type 1} → statement M
 u16-at-spec =
     tie.close
     (tie.spec
+    enum-told
+    u16-by-bytes-requires
+    enum-told-2
+    sub-if2
+    shared-slice-read-u16-low-first
+    add-u16-low-first
+    shared-slice-read-u16-low-first-2
+    u16-low-first-requires
     returns
-    shared-slice-read-u16-of
-    add-byte-at
-    byte-at-requires
-    u16-of-requires
-    returns-2)
+    u16-by-bytes-requires-2
+    returns-2
+    returns-3)

@@ -3,48 +3,37 @@ use Rattle.word.proofs.u16_of.Statement.{statement}
 use Rattle.word.proofs.u16_of.Tie as tie
 use Rattle.word.proofs.u16_of.Reads as reads
 use Rattle.word.proofs.u16_of.Lts as lts
+use Rattle.word.proofs.u16_low_first.Reads as u16-low-first-reads
 
--- src/lib.rt:42:27
+-- src/lib.rt:57:27
 enum-told : tie.Need-enum-told
 enum-told c = search laws
 
--- src/lib.rt:42:38
-mul-result : tie.Need-mul-result
-mul-result c = search laws
+-- src/lib.rt:57:27
+u16-low-first-requires : tie.Need-u16-low-first-requires
+u16-low-first-requires c κs = search laws
 
--- src/lib.rt:42:27
-add-result : tie.Need-add-result
-add-result c = search laws
-
--- src/lib.rt:43:30
+-- src/lib.rt:58:30
 enum-told-2 : tie.Need-enum-told-2
 enum-told-2 c = search laws
 
--- src/lib.rt:43:24
-mul-result-2 : tie.Need-mul-result-2
-mul-result-2 c = search laws
+-- src/lib.rt:58:24
+mul-result : tie.Need-mul-result
+mul-result c = search laws
 
--- src/lib.rt:43:24
-add-result-2 : tie.Need-add-result-2
-add-result-2 c = search laws
+-- src/lib.rt:58:24
+add-result : tie.Need-add-result
+add-result c = search laws
 
--- src/lib.rt:38:1
+-- src/lib.rt:53:1
 returns : tie.Need-returns
 returns c = search laws
 
--- src/lib.rt:38:1
+-- src/lib.rt:53:1
 returns-2 : tie.Need-returns-2
 returns-2 c = search laws
 
 pub u16-of-spec : {M : Type 1} → statement M
 u16-of-spec =
     tie.close
-    (tie.spec
-    enum-told
-    mul-result
-    add-result
-    enum-told-2
-    mul-result-2
-    add-result-2
-    returns
-    returns-2)
+    (tie.spec enum-told u16-low-first-requires enum-told-2 mul-result add-result returns returns-2)
