@@ -3,9 +3,10 @@
 use leb128::Leb;
 use refusal::Refusal;
 ghost use mathlib.Core.Path.{_≡_};
-ghost use Prim.Native.Nat.{_<_};
+ghost use Prim.Native.Nat.{_+_, _<_, _≤_};
 ghost use lib.ListN.{length};
 ghost use Rattle.text.specs.Text.{twoAt, threeAt, wideAt, countAt, extentAt};
+ghost use Rattle.text.specs.Singles.{FewSingles};
 ghost use Rattle.text.specs.Answers.{wide-outcome, count-outcome, text-outcome};
 
 // A unit whose form has two or three bytes, and the place after it.
@@ -116,13 +117,53 @@ fn wide_at(s: &[u8], item: usize, p: usize) -> Wide
     })
 }
 
-// The units from `start` up to the zero byte, counted. Most forms have one byte: they come first and call nothing.
+// How many of the eight bytes from a place on are forms of one byte, up to the first that is none. The loop has a fixed length, which the compiler unrolls.
+fn singles_at(s: &[u8], p: usize) -> usize
+    requires { ⌜ p + 8 ≤ length (now s) ⌝ }
+    ensures { λ r. ⌜ FewSingles (now (s .entry)) p r ⌝ }
+{
+    let mut n: usize = 0;
+    while n < 8 {
+        if s[p + n] < 0x80 {
+            if 0 < s[p + n] {
+                n += 1;
+                continue;
+            }
+            return n;
+        }
+        return n;
+    }
+    n
+}
+
+// The units from `start` up to the zero byte, counted. Most forms have one byte: they are gone over by eight, and behind them a zero byte ends the text at once.
 fn count_at(s: &[u8], item: usize, start: usize) -> Count
     ensures { λ r. ⌜ count-outcome r ≡ countAt (now (s .entry)) item start ⌝ }
 {
     let mut p = start;
     let mut units: usize = 0;
     while p < s.len() {
+        if 8 <= s.len() - p {
+            let n = singles_at(s, p);
+            if 8 <= n {
+                p += n;
+                units += n;
+                continue;
+            }
+            let q = p + n;
+            if 0 < s[q] {
+                if 0 < n {
+                    p = q;
+                    units += n;
+                    continue;
+                }
+            } else {
+                return Count::Got {
+                    units: units + n,
+                    zero: q,
+                };
+            }
+        }
         if s[p] < 0x80 {
             if 0 < s[p] {
                 p += 1;
