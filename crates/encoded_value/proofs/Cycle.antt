@@ -1,8 +1,12 @@
--- What the proof of the cycle cites: the ways through a value, and the loops of the two bodies.
+-- What the proof of the cycle cites: the ways through a value, and the loop over the values of a body.
 -- Assumes nothing.
+use Prim.{tt}
 use Prim.Native.Nat.{ℕ, zero, suc, _+_, _-_, _%_, _<_, _≤_}
-use mathlib.Core.Path.{_≡_, refl, ap, sym, _∙_}
+use mathlib.Core.Path.{_≡_, refl, ap, sym, subst, _∙_}
+use mathlib.Core.Bool.{Bool, true, false}
 use mathlib.Core.List.{List}
+use lib.ListN.{length, take, drop}
+use lib.Seq.{take-length}
 use borrow.Author.Needs.{needs}
 use borrow.Author.Tests.{eq-eqb, ne-eqb}
 use native.Mathlib.Omega.{arith}
@@ -26,6 +30,9 @@ use Rattle.value_heads.specs.declared.HeadByte.the-variants as H
 use Rattle.encoded_value.specs.Tree.{Tree, Named, Annotation}
 use Rattle.encoded_value.specs.Readings.{plainAt, startAt, arrayWith, namedWith, annotationWith, as-array, as-annotation, kindWith, valueWith, valueAt, arrayAt, annotationAt, pastValue, pastArray, pastAnnotation, pastNamed, pastPlain}
 use Rattle.encoded_value.specs.Answers.{step-outcome}
+use Rattle.encoded_value.specs.Stages.{Bodyless, indexPast, pastInner, pastValues, pastBody}
+use Rattle.encoded_value.specs.declared.BodylessAnswer.{BodylessAnswer}
+use Rattle.encoded_value.specs.declared.BodylessAnswer.the-variants as B
 use Rattle.encoded_value.proofs.Leaves.{past-made}
 
 module _ (s : List ℕ) (w : Walk) where
@@ -83,19 +90,38 @@ module _ (s : List ℕ) (w : Walk) where
       pub value-plain : (h % 32 ≡ 0x1c → ⊥) → (h % 32 ≡ 0x1d → ⊥) → y ≡ pastPlain s w h (p + 1) → y ≡ pastValue s w left p
       value-plain n m k = k ∙ sym (ap (λ (o : Outcome (Found Tree ℕ)). o >>= past) (value-kind t ∙ kind-plain (arrayAt s w left) (annotationAt s w left) h (p + 1) n m))
 
+  -- ---- a value that opens no body
+  pub bodyless-body : (p : ℕ) → Bodyless s w p B.Body
+  unfolding Bodyless
+  bodyless-body p = tt
+
+  module _ (p : ℕ) {x : HeadByte} (e : head-outcome x ≡ headAt s (w .item) p) where
+    pub bodyless-headless : {r : Refusal} → x ≡ H.Refused r → Bodyless s w p (B.Refused r)
+    unfolding Bodyless
+    bodyless-headless t = λ left. value-refused left p e t
+
+    module _ {h : ℕ} (t : x ≡ H.Got h) (n : h % 32 ≡ 0x1c → ⊥) (m : h % 32 ≡ 0x1d → ⊥) {y : Step} (k : step-outcome y ≡ pastPlain s w h (p + 1)) where
+      pub bodyless-next : {q : ℕ} → y ≡ S.Next q → Bodyless s w p (B.Next q)
+      unfolding Bodyless
+      bodyless-next v = λ left. value-plain left p e t n m (sym (ap step-outcome v) ∙ k)
+
+      pub bodyless-refused : {r : Refusal} → y ≡ S.Refused r → Bodyless s w p (B.Refused r)
+      unfolding Bodyless
+      bodyless-refused v = λ left. value-plain left p e t n m (sym (ap step-outcome v) ∙ k)
+
   -- ---- a body that may not be opened
-  module _ (left p : ℕ) (l : left ≤ 0) where
-    pub array-deep : refused (record { number = 13; place = w .item }) ≡ pastArray s w left p
-    unfolding arrayAt _>>=_
-    array-deep = let z : left ≡ 0 = omega arith in rw z
+  pub body-deep : (named : Bool) (left p : ℕ) → left ≤ 0 → refused (record { number = 13; place = w .item }) ≡ pastBody s w named left p
+  unfolding pastBody arrayAt annotationAt _>>=_
+  body-deep true left p l = let z : left ≡ 0 = omega arith in rw z
+  body-deep false left p l = let z : left ≡ 0 = omega arith in rw z
 
-    pub annotation-deep : refused (record { number = 13; place = w .item }) ≡ pastAnnotation s w left p
-    unfolding annotationAt _>>=_
-    annotation-deep = let z : left ≡ 0 = omega arith in rw z
-
-  named-is : (left p : ℕ) → pastNamed s w left p ≡ (indexAt s (w .item) (w .strings) p >>= λ (n : Found ℕ ℕ). pastValue s w left (n .next))
+  pub named-is : (left p : ℕ) → pastNamed s w left p ≡ (indexAt s (w .item) (w .strings) p >>= λ (n : Found ℕ ℕ). pastValue s w left (n .next))
   unfolding namedWith
   named-is left p = bind-assoc (indexAt s (w .item) (w .strings) p) _ past ∙ ap (λ (k : Found ℕ ℕ → Outcome ℕ). indexAt s (w .item) (w .strings) p >>= k) (λ i n. sym (past-made {B = Named} (λ (v : Found Tree ℕ). record { name = n .item; value = v .item }) (valueAt s w left (n .next))) i)
+
+  inner-named : (left p : ℕ) → pastNamed s w left p ≡ pastInner s w true left p
+  unfolding pastInner indexPast _>>=_
+  inner-named left p = named-is left p ∙ sym (bind-assoc (indexAt s (w .item) (w .strings) p) past _)
 
   module _ (left p : ℕ) (l : 0 < left) where
     array-is : pastArray s w left p ≡ (ulebAt s (w .item) p >>= λ (n : Found ℕ ℕ). repeat (n .item) (pastValue s w (left - 1)) (n .next))
@@ -122,41 +148,98 @@ module _ (s : List ℕ) (w : Walk) where
             ∙ ap (λ (k : Found ℕ ℕ → Outcome ℕ). ulebAt s (w .item) (t .next) >>= k)
             (λ i n. (sym (past-made {B = Annotation} (λ (es : Found (List Named) ℕ). record { type-index = t .item; elements = es .item }) (collect (n .item) (namedWith s w (valueAt s w (left - 1))) (n .next))) ∙ past-collect (namedWith s w (valueAt s w (left - 1))) (n .item) (n .next)) i)
 
-    -- ---- the loops begin
-    module _ {x : Leb} (e : leb-outcome x ≡ ulebAt s (w .item) p) where
-      pub array-refused : {r : Refusal} → x ≡ L.Refused r → refused r ≡ pastArray s w left p
-      array-refused t = sym (array-is ∙ bind-refused _ (sym (sym (ap leb-outcome t) ∙ e)))
+    -- both bodies are gone over in one way
+    body-is : (named : Bool) → pastBody s w named left p
+        ≡ (indexPast s (w .item) named (w .types) p >>= λ (q : ℕ). ulebAt s (w .item) q >>= λ (n : Found ℕ ℕ). pastValues s w named (left - 1) (n .item) (n .next))
+    unfolding pastBody indexPast pastInner startAt _>>=_
+    body-is false = array-is
+    body-is true =
+        annotation-is
+        ∙ bind-assoc (indexAt s (w .item) (w .types) p) _ _
+        ∙ (λ i. indexAt s (w .item) (w .types) p >>= λ (t : Found ℕ ℕ). ulebAt s (w .item) (t .next) >>= λ (n : Found ℕ ℕ). repeat (n .item) (λ (q : ℕ). inner-named (left - 1) q i) (n .next))
+        ∙ sym (bind-assoc (indexAt s (w .item) (w .types) p) past _)
 
-      pub array-first : {n q : ℕ} → x ≡ L.Got n q → Loop (pastArray s w left p) (pastValue s w (left - 1)) n q
-      array-first t = record { same = array-is ∙ bind-answer _ (sym (sym (ap leb-outcome t) ∙ e)) }
+    -- ---- a body begins
+    module _ (named : Bool) {x : Step} (e : step-outcome x ≡ indexPast s (w .item) named (w .types) p) where
+      pub front-refused : {r : Refusal} → x ≡ S.Refused r → refused r ≡ pastBody s w named left p
+      front-refused t = sym (body-is named ∙ bind-refused _ (sym (sym (ap step-outcome t) ∙ e)))
 
-    module _ {x : Leb} (e : leb-outcome x ≡ startAt s w p) where
-      pub annotation-refused : {r : Refusal} → x ≡ L.Refused r → refused r ≡ pastAnnotation s w left p
-      annotation-refused t = sym (annotation-is ∙ bind-refused _ (sym (sym (ap leb-outcome t) ∙ e)))
+      module _ {q : ℕ} (t : x ≡ S.Next q) where
+        sized : pastBody s w named left p ≡ (ulebAt s (w .item) q >>= λ (n : Found ℕ ℕ). pastValues s w named (left - 1) (n .item) (n .next))
+        sized = body-is named ∙ bind-answer _ (sym (sym (ap step-outcome t) ∙ e))
 
-      pub annotation-first : {n q : ℕ} → x ≡ L.Got n q → Loop (pastAnnotation s w left p) (pastNamed s w (left - 1)) n q
-      annotation-first t = record { same = annotation-is ∙ bind-answer _ (sym (sym (ap leb-outcome t) ∙ e)) }
+        pub size-refused : {y : Leb} {r : Refusal} → leb-outcome y ≡ ulebAt s (w .item) q → y ≡ L.Refused r → refused r ≡ pastBody s w named left p
+        size-refused g u = sym (sized ∙ bind-refused _ (sym (sym (ap leb-outcome u) ∙ g)))
+
+        pub size-got : {y : Leb} {n m : ℕ} {z : Outcome ℕ} → leb-outcome y ≡ ulebAt s (w .item) q → y ≡ L.Got n m → z ≡ pastValues s w named (left - 1) n m → z ≡ pastBody s w named left p
+        size-got g u k = k ∙ sym (sized ∙ bind-answer _ (sym (sym (ap leb-outcome u) ∙ g)))
+
+  -- ---- the two bodies by their names
+  module _ (left p : ℕ) {y : Outcome ℕ} where
+    pub array-by : y ≡ pastBody s w false left p → y ≡ pastArray s w left p
+    unfolding pastBody
+    array-by e = e
+
+    pub annotation-by : y ≡ pastBody s w true left p → y ≡ pastAnnotation s w left p
+    unfolding pastBody
+    annotation-by e = e
+
+-- ---- the loop over the values of a body: what is left to do says what the whole says
+pub record Values (s : List ℕ) (w : Walk) (named : Bool) (left from count more p : ℕ) : Type 0 where
+  loop : Loop (pastValues s w named left count from) (pastInner s w named left) more p
+
+pub values-first : (s : List ℕ) (w : Walk) (named : Bool) (left from count : ℕ) → Values s w named left from count count from
+values-first s w named left from count = record { loop = record { same = refl } }
+
+pub values-done : {s : List ℕ} {w : Walk} {named : Bool} {left from count more p : ℕ} → Values s w named left from count more p → more ≤ 0 → answer p ≡ pastValues s w named left count from
+values-done h l = walk-done (h .loop) l
 
 -- ---- one turn
-module _ {whole : Outcome ℕ} {step : ℕ → Outcome ℕ} {more p : ℕ} (h : Loop whole step more p) (l : 0 < more) {x : Step} (e : step-outcome x ≡ step p) where
-  pub turn-next : {q : ℕ} → x ≡ S.Next q → Loop whole step (more - 1) q
-  turn-next t = walk-next h l (sym (ap step-outcome t) ∙ e)
+module _ {s : List ℕ} {w : Walk} {named : Bool} {left from count more p : ℕ} (h : Values s w named left from count more p) (l : 0 < more)
+    {x : Step} (e : step-outcome x ≡ indexPast s (w .item) named (w .strings) p) where
+  pub name-stop : {r : Refusal} → x ≡ S.Refused r → refused r ≡ pastValues s w named left count from
+  unfolding pastInner
+  name-stop t = walk-stop (h .loop) l (sym (bind-refused _ (sym (sym (ap step-outcome t) ∙ e))))
 
-  pub turn-stop : {r : Refusal} → x ≡ S.Refused r → refused r ≡ whole
-  turn-stop t = walk-stop h l (sym (ap step-outcome t) ∙ e)
+  module _ {at : ℕ} (t : x ≡ S.Next at) where
+    inner : pastInner s w named left p ≡ pastValue s w left at
+    unfolding pastInner
+    inner = bind-answer _ (sym (sym (ap step-outcome t) ∙ e))
 
-module _ (s : List ℕ) (w : Walk) (left : ℕ) {whole : Outcome ℕ} {more p : ℕ} (h : Loop whole (pastNamed s w left) more p) (l : 0 < more) {x : Leb} (e : leb-outcome x ≡ indexAt s (w .item) (w .strings) p) where
-  pub name-stop : {r : Refusal} → x ≡ L.Refused r → refused r ≡ whole
-  name-stop t = walk-stop h l (sym (named-is s w left p ∙ bind-refused _ (sym (sym (ap leb-outcome t) ∙ e))))
+    turn-on : {q : ℕ} → answer q ≡ pastValue s w left at → Values s w named left from count (more - 1) q
+    turn-on k = record { loop = walk-next (h .loop) l (k ∙ sym inner) }
 
-  module _ {n q : ℕ} (t : x ≡ L.Got n q) where
-    named : pastNamed s w left p ≡ pastValue s w left q
-    named = named-is s w left p ∙ bind-answer _ (sym (sym (ap leb-outcome t) ∙ e))
+    turn-off : {r : Refusal} → refused r ≡ pastValue s w left at → refused r ≡ pastValues s w named left count from
+    turn-off k = walk-stop (h .loop) l (k ∙ sym inner)
 
-    pub named-next : {y : Step} {u : ℕ} → step-outcome y ≡ pastValue s w left q → y ≡ S.Next u → Loop whole (pastNamed s w left) (more - 1) u
-    named-next f v = walk-next h l (sym (ap step-outcome v) ∙ f ∙ sym named)
+    -- over a value that opens no body
+    module _ {y : BodylessAnswer} (f : Bodyless s w at y) where
+      pub bodyless-turn : {q : ℕ} → y ≡ B.Next q → Values s w named left from count (more - 1) q
+      unfolding Bodyless
+      bodyless-turn u = turn-on (subst (Bodyless s w at) u f left)
 
-    pub named-stop : {y : Step} {r : Refusal} → step-outcome y ≡ pastValue s w left q → y ≡ S.Refused r → refused r ≡ whole
-    named-stop f v = walk-stop h l (sym (ap step-outcome v) ∙ f ∙ sym named)
+      pub bodyless-stop : {r : Refusal} → y ≡ B.Refused r → refused r ≡ pastValues s w named left count from
+      unfolding Bodyless
+      bodyless-stop u = turn-off (subst (Bodyless s w at) u f left)
 
-pub ruleset cycle-laws = (after-head, value-refused, value-array, value-annotation, value-plain, array-deep, annotation-deep, array-refused, array-first, annotation-refused, annotation-first, turn-next, turn-stop, name-stop, named-next, named-stop, walk-done, needs)
+    -- over one that does, by a call on the same slice and the same counts, made anew
+    module _ {s' : List ℕ} {w' : Walk} (same : s' ≡ s) (kept : w' ≡ w) where
+      moved : pastValue s' w' left at ≡ pastValue s w left at
+      moved = λ i. pastValue (same i) (kept i) left at
+
+      pub body-turn : {y : Step} {q : ℕ} → step-outcome y ≡ pastValue s' w' left at → y ≡ S.Next q → Values s w named left from count (more - 1) q
+      body-turn f u = turn-on (sym (ap step-outcome u) ∙ f ∙ moved)
+
+      pub body-stop : {y : Step} {r : Refusal} → step-outcome y ≡ pastValue s' w' left at → y ≡ S.Refused r → refused r ≡ pastValues s w named left count from
+      body-stop f u = turn-off (sym (ap step-outcome u) ∙ f ∙ moved)
+
+-- all of a slice
+pub all-of : (s : List ℕ) → take (length s - 0) (drop 0 s) ≡ s
+all-of s = let size : length s - 0 ≡ length s = omega arith in ap (λ (n : ℕ). take n (drop 0 s)) size ∙ take-length s
+
+pub ruleset anew-laws = (all-of, needs)
+
+pub ruleset cycle-laws = (after-head, value-refused, value-array, value-annotation, value-plain, body-deep, front-refused, size-refused, size-got, array-by, annotation-by, values-first, values-done, name-stop, bodyless-turn, bodyless-stop, body-turn, body-stop, needs)
+
+-- what a value that opens no body is searched with
+pub ruleset bodyless-laws = (after-head, bodyless-body, bodyless-headless, bodyless-next, bodyless-refused, needs)

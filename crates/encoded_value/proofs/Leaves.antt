@@ -16,12 +16,13 @@ use Rattle.value_heads.specs.declared.Walk.{Walk}
 use Rattle.value_heads.specs.declared.Number.{Number}
 use Rattle.value_heads.specs.declared.Number.the-variants as N
 use Rattle.value_heads.specs.Kinds.{bytes-of, is-index, in-range}
-use Rattle.value_heads.specs.Readings.{numberAt, checkedAt}
+use Rattle.value_heads.specs.Readings.{numberAt, checkedAt, indexAt}
 use Rattle.value_heads.specs.Answers.{number-outcome}
 use Rattle.value_heads.proofs.Numbers.{room-fits}
 use Rattle.value_heads.proofs.Laws.{number-got, number-short, range-other}
 use Rattle.encoded_value.specs.declared.Step.{Step}
 use Rattle.encoded_value.specs.Readings.{plainAt}
+use Rattle.encoded_value.specs.Stages.{indexPast}
 use Rattle.encoded_value.specs.Answers.{step-outcome}
 
 -- ---- the bytes behind a head byte
@@ -71,5 +72,17 @@ on-step = said step-outcome
 pub ruleset bytes-laws = (bytes-there, bytes-short, room-fits, needs)
 
 pub ruleset plain-laws = (plain-got, plain-refused, plain-other, needs)
+
+-- an index that is there in an annotation alone
+module _ (s : List ℕ) (item count p : ℕ) {named : Bool} where
+  pub index-none : named ≡ false → answer p ≡ indexPast s item named count p
+  unfolding indexPast
+  index-none e = rw e
+
+  pub index-named : {y : Outcome ℕ} → named ≡ true → y ≡ (indexAt s item count p >>= past) → y ≡ indexPast s item named count p
+  unfolding indexPast
+  index-named e h = rw e h
+
+pub ruleset index-laws = (index-none, index-named, on-leb, calls, needs)
 
 pub ruleset start-laws = (on-leb, calls, tests, needs)

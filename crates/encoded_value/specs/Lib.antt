@@ -2,3 +2,4 @@ pub mod Tree
 pub mod Readings
 pub mod Rules
 pub mod Answers
+pub mod Stages

@@ -9,6 +9,7 @@ ghost use mathlib.Core.Path.{_≡_};
 ghost use Rattle.value_heads.specs.Kinds.{bytes-of};
 ghost use Rattle.encoded_value.specs.Readings.{startAt, pastNumber, pastPlain, pastValue, pastArray, pastAnnotation};
 ghost use Rattle.encoded_value.specs.Answers.{step-outcome};
+ghost use Rattle.encoded_value.specs.Stages.{Bodyless, indexPast, pastValues, pastBody};
 ghost use Rattle.leb128.specs.Answers.{leb-outcome};
 
 // Where to go on.
@@ -48,6 +49,75 @@ pub fn plain_past(s: &[u8], w: Walk, at: usize, head: u8) -> Step
     bytes_past(s, w.item, at, head)
 }
 
+// A value that opens no body: where to go on. Of one that opens a body nothing is said.
+pub enum BodylessAnswer {
+    Next(usize),
+    Refused(Refusal),
+    Body,
+}
+
+// A value, if it opens no body. Most open none: the loop over values that has this compiled in then calls nothing.
+fn bodyless_at(s: &[u8], w: Walk, at: usize) -> BodylessAnswer
+    ensures { λ r. ⌜ Bodyless (now (s .entry)) w at r ⌝ }
+{
+    match value_heads::head_at(s, w.item, at) {
+        HeadByte::Refused(r) => BodylessAnswer::Refused(r),
+        HeadByte::Got(head) => {
+            let code = head % 32;
+            if code == 0x1c {
+                return BodylessAnswer::Body;
+            }
+            if code == 0x1d {
+                return BodylessAnswer::Body;
+            }
+            match plain_past(s, w, at + 1, head) {
+                Step::Refused(r) => BodylessAnswer::Refused(r),
+                Step::Next(q) => BodylessAnswer::Next(q),
+            }
+        }
+    }
+}
+
+// The index that an annotation has in front of its values (its type) and of each of them (its name), gone over. An array has none.
+fn index_past(s: &[u8], item: usize, named: bool, count: u32, at: usize) -> Step
+    ensures { λ r. ⌜ step-outcome r ≡ indexPast (now (s .entry)) item named count at ⌝ }
+{
+    if named {
+        match value_heads::index_at(s, item, count, at) {
+            Leb::Refused(r) => {
+                return Step::Refused(r);
+            }
+            Leb::Got { value: _, next } => {
+                return Step::Next(next);
+            }
+        }
+    }
+    Step::Next(at)
+}
+
+// The slice and what stays the same, made anew for a nested call: a function that lends on what it was lent must copy it as it is entered, and
+// waits for the stores of its parts.
+fn slice_anew(s: &[u8]) -> &[u8]
+    ensures { λ r. ⌜ now r ≡ now (s .entry) ⌝ }
+{
+    let n = s.len();
+    &s[0..n]
+}
+
+fn walk_anew(w: Walk) -> Walk
+    ensures { λ r. ⌜ r ≡ w ⌝ }
+{
+    Walk {
+        item: w.item,
+        strings: w.strings,
+        types: w.types,
+        protos: w.protos,
+        fields: w.fields,
+        methods: w.methods,
+        handles: w.handles,
+    }
+}
+
 // A value: its head byte, then the body that it opens, or its bytes.
 pub fn value(s: &[u8], w: Walk, at: usize, left: u32) -> Step
     ensures { λ r. ⌜ step-outcome r ≡ pastValue (now (s .entry)) w left at ⌝ }
@@ -67,9 +137,44 @@ pub fn value(s: &[u8], w: Walk, at: usize, left: u32) -> Step
     }
 }
 
-// An array's body: its size, then its values, of which each may open one body less.
-pub fn array_body(s: &[u8], w: Walk, at: usize, left: u32) -> Step
-    ensures { λ r. ⌜ step-outcome r ≡ pastArray (now (s .entry)) w left at ⌝ }
+// The values of a body, each with its name in front where the body is an annotation.
+fn values_past(s: &[u8], w: Walk, named: bool, from: usize, count: u32, left: u32) -> Step
+    ensures { λ r. ⌜ step-outcome r ≡ pastValues (now (s .entry)) w named left count from ⌝ }
+{
+    let mut p = from;
+    let mut more = count;
+    while 0 < more {
+        match index_past(s, w.item, named, w.strings, p) {
+            Step::Refused(r) => {
+                return Step::Refused(r);
+            }
+            Step::Next(at) => match bodyless_at(s, w, at) {
+                BodylessAnswer::Refused(r) => {
+                    return Step::Refused(r);
+                }
+                BodylessAnswer::Next(q) => {
+                    p = q;
+                    more -= 1;
+                    continue;
+                }
+                BodylessAnswer::Body => match value(slice_anew(s), walk_anew(w), at, left) {
+                    Step::Refused(r) => {
+                        return Step::Refused(r);
+                    }
+                    Step::Next(q) => {
+                        p = q;
+                    }
+                },
+            },
+        }
+        more -= 1;
+    }
+    Step::Next(p)
+}
+
+// A body, if one more may be opened: the type of an annotation, the size, and the values, of which each may open one body less.
+fn body_past(s: &[u8], w: Walk, named: bool, at: usize, left: u32) -> Step
+    ensures { λ r. ⌜ step-outcome r ≡ pastBody (now (s .entry)) w named left at ⌝ }
 {
     if left <= 0 {
         return Step::Refused(Refusal {
@@ -77,25 +182,27 @@ pub fn array_body(s: &[u8], w: Walk, at: usize, left: u32) -> Step
             place: w.item,
         });
     }
-    match leb128::uleb(s, at, w.item) {
-        Leb::Refused(r) => Step::Refused(r),
-        Leb::Got { value: count, next } => {
-            let mut p = next;
-            let mut more = count;
-            while 0 < more {
-                match value(s, w, p, left - 1) {
-                    Step::Refused(r) => {
-                        return Step::Refused(r);
-                    }
-                    Step::Next(q) => {
-                        p = q;
-                    }
-                }
-                more -= 1;
-            }
-            Step::Next(p)
-        }
+    match index_past(s, w.item, named, w.types, at) {
+        Step::Refused(r) => Step::Refused(r),
+        Step::Next(from) => match leb128::uleb(s, from, w.item) {
+            Leb::Refused(r) => Step::Refused(r),
+            Leb::Got { value: count, next } => values_past(s, w, named, next, count, left - 1),
+        },
     }
+}
+
+// An array's body: its size, then its values.
+pub fn array_body(s: &[u8], w: Walk, at: usize, left: u32) -> Step
+    ensures { λ r. ⌜ step-outcome r ≡ pastArray (now (s .entry)) w left at ⌝ }
+{
+    body_past(s, w, false, at, left)
+}
+
+// An annotation's body: its type, its size, then its named values.
+pub fn annotation_body(s: &[u8], w: Walk, at: usize, left: u32) -> Step
+    ensures { λ r. ⌜ step-outcome r ≡ pastAnnotation (now (s .entry)) w left at ⌝ }
+{
+    body_past(s, w, true, at, left)
 }
 
 // An annotation's type and size: how many elements, and where they start.
@@ -105,45 +212,6 @@ pub fn annotation_start(s: &[u8], w: Walk, at: usize) -> Leb
     match value_heads::index_at(s, w.item, w.types, at) {
         Leb::Refused(r) => Leb::Refused(r),
         Leb::Got { value: _, next } => leb128::uleb(s, next, w.item),
-    }
-}
-
-// An annotation's body: its type, its size, then its named values.
-pub fn annotation_body(s: &[u8], w: Walk, at: usize, left: u32) -> Step
-    ensures { λ r. ⌜ step-outcome r ≡ pastAnnotation (now (s .entry)) w left at ⌝ }
-{
-    if left <= 0 {
-        return Step::Refused(Refusal {
-            number: 13,
-            place: w.item,
-        });
-    }
-    match annotation_start(s, w, at) {
-        Leb::Refused(r) => Step::Refused(r),
-        Leb::Got { value: count, next } => {
-            let mut p = next;
-            let mut more = count;
-            while 0 < more {
-                match value_heads::index_at(s, w.item, w.strings, p) {
-                    Leb::Refused(r) => {
-                        return Step::Refused(r);
-                    }
-                    Leb::Got {
-                        value: _,
-                        next: from,
-                    } => match value(s, w, from, left - 1) {
-                        Step::Refused(r) => {
-                            return Step::Refused(r);
-                        }
-                        Step::Next(q) => {
-                            p = q;
-                        }
-                    },
-                }
-                more -= 1;
-            }
-            Step::Next(p)
-        }
     }
 }
 

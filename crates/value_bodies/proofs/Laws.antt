@@ -1,6 +1,6 @@
 -- What the functions' proofs cite: a body that was gone over whole has its size, and each of its values can be reached.
 -- Assumes nothing.
-use Prim.Native.Nat.{ℕ, _<_, _≤_}
+use Prim.Native.Nat.{ℕ, _-_, _<_, _≤_}
 use mathlib.Core.Path.{_≡_, ap, sym, subst, _∙_}
 use mathlib.Core.List.{List}
 use lib.ListN.{length}
@@ -9,7 +9,7 @@ use borrow.Author.Needs.{needs}
 use Rattle.refusal.specs.declared.Refusal.{Refusal}
 use Rattle.refusal.specs.Outcome.{Outcome, answer, refused, _>>=_}
 use Rattle.refusal.specs.Rows.{Found, repeat}
-use Rattle.refusal.proofs.Laws.{calls, bind-answer, bind-refused, walk-start, walk-done}
+use Rattle.refusal.proofs.Laws.{calls, bind-answer, bind-refused, Walk as Loop, walk-start, walk-next, walk-stop, walk-done}
 use Rattle.refusal.proofs.Exact.{answers-equal, never}
 use Rattle.refusal.proofs.Rows.{past-answer, past-refused}
 use Rattle.leb128.specs.Leb.{ulebAt}
@@ -27,7 +27,7 @@ use Rattle.encoded_value.specs.Readings.{startAt, namedWith, valueAt, arrayAt, 
 use Rattle.encoded_value.specs.Rules.{ArrayWith, AnnotationWith, Value, ArrayBody, AnnotationBody}
 use Rattle.encoded_value.specs.Answers.{step-outcome}
 use Rattle.encoded_value.proofs.Leaves.{on-step}
-use Rattle.encoded_value.proofs.Cycle.{turn-next, turn-stop, name-stop, named-next, named-stop}
+use Rattle.encoded_value.proofs.Cycle.{named-is}
 use Rattle.value_heads.proofs.Exactly.{index-exact}
 use Rattle.encoded_value.proofs.Exactly.{value-exact, named-with-exact, array-exact, annotation-exact}
 use Rattle.decoded_value.specs.Shown.{Shown, shown}
@@ -194,6 +194,28 @@ module _ (s : List ℕ) (w : Walk) (p : ℕ) where
 pub ruleset array-laws = (count-unread, count-no-size, count-got, value-unread, value-no-size, value-none, value-kth, needs)
 
 pub ruleset annotation-laws = (head-unread, head-no-type, head-no-size, head-got, element-unread, element-no-start, element-none, element-kth, needs)
+
+-- ---- one turn of the going over values or named values
+module _ {whole : Outcome ℕ} {step : ℕ → Outcome ℕ} {more p : ℕ} (h : Loop whole step more p) (l : 0 < more) {x : Step} (e : step-outcome x ≡ step p) where
+  pub turn-next : {q : ℕ} → x ≡ S.Next q → Loop whole step (more - 1) q
+  turn-next t = walk-next h l (sym (ap step-outcome t) ∙ e)
+
+  pub turn-stop : {r : Refusal} → x ≡ S.Refused r → refused r ≡ whole
+  turn-stop t = walk-stop h l (sym (ap step-outcome t) ∙ e)
+
+module _ (s : List ℕ) (w : Walk) (left : ℕ) {whole : Outcome ℕ} {more p : ℕ} (h : Loop whole (pastNamed s w left) more p) (l : 0 < more) {x : Leb} (e : leb-outcome x ≡ indexAt s (w .item) (w .strings) p) where
+  pub name-stop : {r : Refusal} → x ≡ L.Refused r → refused r ≡ whole
+  name-stop t = walk-stop h l (sym (named-is s w left p ∙ bind-refused _ (sym (sym (ap leb-outcome t) ∙ e))))
+
+  module _ {n q : ℕ} (t : x ≡ L.Got n q) where
+    named : pastNamed s w left p ≡ pastValue s w left q
+    named = named-is s w left p ∙ bind-answer _ (sym (sym (ap leb-outcome t) ∙ e))
+
+    pub named-next : {y : Step} {u : ℕ} → step-outcome y ≡ pastValue s w left q → y ≡ S.Next u → Loop whole (pastNamed s w left) (more - 1) u
+    named-next f v = walk-next h l (sym (ap step-outcome v) ∙ f ∙ sym named)
+
+    pub named-stop : {y : Step} {r : Refusal} → step-outcome y ≡ pastValue s w left q → y ≡ S.Refused r → refused r ≡ whole
+    named-stop f v = walk-stop h l (sym (ap step-outcome v) ∙ f ∙ sym named)
 
 pub ruleset past-laws = (walk-start, walk-done, turn-next, turn-stop, name-stop, named-next, named-stop, needs)
 
