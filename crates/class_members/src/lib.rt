@@ -117,8 +117,8 @@ pub fn member_found(
     }
 }
 
-// The new member where it is the one asked for, or else the one that was kept.
-fn newer(asked: bool, new: Member, old: Member) -> Member
+// The new number where it is the one asked for, or else the one that was kept.
+fn newer(asked: bool, new: u32, old: u32) -> u32
     ensures { λ r. ⌜ r ≡ cond asked new old ⌝ }
 {
     if asked {
@@ -127,32 +127,28 @@ fn newer(asked: bool, new: Member, old: Member) -> Member
     old
 }
 
-// All members of a list, of which number k is kept.
+// All members of a list, of which number k is kept, field by field: a copy of the whole would wait for the stores of its fields.
 pub fn members_at(s: &[u8], j: Judge, item: usize, from: usize, count: u32, k: u32) -> MemberFound
     ensures { λ r. ⌜ found-outcome r ≡ keptMembers (now (s .entry)) j item from count k ⌝ }
 {
     let mut p = from;
-    let mut last = Member {
-        index: 0,
-        flags: 0,
-        code: 0,
-    };
+    let mut last: u32 = 0;
     let mut later = false;
-    let mut kept = Member {
-        index: 0,
-        flags: 0,
-        code: 0,
-    };
+    let mut index: u32 = 0;
+    let mut flags: u32 = 0;
+    let mut code: u32 = 0;
     let mut i: u32 = 0;
     let mut left = count;
     while 0 < left {
-        match member_found(s, j, item, last.index, later, p) {
+        match member_found(s, j, item, last, later, p) {
             MemberFound::Refused(r) => {
                 return MemberFound::Refused(r);
             }
             MemberFound::Got { member, next } => {
-                kept = newer(i == k, member, kept);
-                last = member;
+                index = newer(i == k, member.index, index);
+                flags = newer(i == k, member.flags, flags);
+                code = newer(i == k, member.code, code);
+                last = member.index;
                 p = next;
             }
         }
@@ -161,7 +157,7 @@ pub fn members_at(s: &[u8], j: Judge, item: usize, from: usize, count: u32, k: u
         left -= 1;
     }
     MemberFound::Got {
-        member: kept,
+        member: Member { index, flags, code },
         next: p,
     }
 }
