@@ -119,6 +119,35 @@ module _ (s : List ℕ) (f : Frame) (item : ℕ) where
       e ∙ ap (λ (o : Outcome Kept). o >>= λ (h : Kept). answer (record { directs = h .counts .directs; virtuals = h .counts .virtuals; from = h .methods })) (sym (kept-whole 0))
       ∙ bind-assoc (classDataAt s f item) (holding 0) _
 
+  -- the methods alone: of the lists nothing but where they end is kept
+  unfoldable pub methodsStaged : Outcome Methods
+  methodsStaged = do
+    c ← countsAt s item
+    x ← keptTwo s (fields-judge f) item (c .next) (c .item .statics) (c .item .instances) 0
+    y ← keptTwo s (methods-judge f) item (x .next) (c .item .directs) (c .item .virtuals) 0
+    answer (record { directs = c .item .directs; virtuals = c .item .virtuals; from = x .next })
+
+  abbrev taking : Kept → Outcome Methods
+  taking h = answer (record { directs = h .counts .directs; virtuals = h .counts .virtuals; from = h .methods })
+
+  staged-is : methodsStaged ≡ (keptAt s f item 0 >>= taking)
+  unfolding keptAt methodsStaged _>>=_
+  staged-is = sym (bind-assoc (countsAt s item) _ taking ∙ λ i. countsAt s item >>= λ (c : Found Counts ℕ). lists c i)
+    where
+      lists : (c : Found Counts ℕ) → ((keptTwo s (fields-judge f) item (c .next) (c .item .statics) (c .item .instances) 0 >>= λ (x : KeptTwo).
+          keptTwo s (methods-judge f) item (x .next) (c .item .directs) (c .item .virtuals) 0 >>= λ (y : KeptTwo).
+          answer (record { counts = c .item; members = record { statics = x .first; instances = x .second; directs = y .first; virtuals = y .second }; methods = x .next; end = y .next })) >>= taking)
+          ≡ (keptTwo s (fields-judge f) item (c .next) (c .item .statics) (c .item .instances) 0 >>= λ (x : KeptTwo).
+          keptTwo s (methods-judge f) item (x .next) (c .item .directs) (c .item .virtuals) 0 >>= λ (y : KeptTwo).
+          answer (record { directs = c .item .directs; virtuals = c .item .virtuals; from = x .next }))
+      lists c =
+          bind-assoc (keptTwo s (fields-judge f) item (c .next) (c .item .statics) (c .item .instances) 0) _ taking
+          ∙ λ i. keptTwo s (fields-judge f) item (c .next) (c .item .statics) (c .item .instances) 0 >>= λ (x : KeptTwo).
+          bind-assoc (keptTwo s (methods-judge f) item (x .next) (c .item .directs) (c .item .virtuals) 0) (λ (y : KeptTwo). answer (record { counts = c .item; members = record { statics = x .first; instances = x .second; directs = y .first; virtuals = y .second }; methods = x .next; end = y .next })) taking i
+
+  pub methods-staged : {y : Outcome Methods} → y ≡ methodsStaged → y ≡ methodsAt s f item
+  methods-staged e = methods-by (e ∙ staged-is)
+
   -- a list by its number, in the list, its count and its member
   through : {A B : Type 0} (g : A → B) (list : ℕ) (a b c d e : A) → g (one-of-four list a b c d e) ≡ one-of-four list (g a) (g b) (g c) (g d) (g e)
   through {A} {B} g list a b c d e = go (eqb list 0) a _ _ (go (eqb list 1) b _ _ (go (eqb list 2) c _ _ (go (eqb list 3) d _ _ refl)))
@@ -151,7 +180,7 @@ module _ (list k : ℕ) (c : Counts) (m : Four) {n : ℕ} (e : n ≡ countIn lis
 -- ---- what this crate's functions are searched with
 pub ruleset part-laws = (on-leb, on-found, on-pair, calls, tests, needs)
 
-pub ruleset stage-laws = (on-counts, on-two, on-kept, extent-by, methods-by, member-by, member-there, member-lacks, calls, tests, needs)
+pub ruleset stage-laws = (on-counts, on-two, on-kept, extent-by, methods-staged, member-by, member-there, member-lacks, calls, tests, needs)
 
 -- what a caller's functions are
 pub ruleset laws = (on-data, on-member, on-found, on-methods)

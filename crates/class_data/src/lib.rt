@@ -220,22 +220,45 @@ pub fn class_data_at(s: &[u8], f: Frame, item: usize) -> DataAnswer
     }
 }
 
-// How many methods either list has, and where they begin: for going over them once more.
+// How many methods either list has, and where they begin: for going over them once more. Nothing is kept of the members.
 pub fn methods_at(s: &[u8], f: Frame, item: usize) -> MethodsAnswer
     ensures { λ r. ⌜ methods-outcome r ≡ methodsAt (now (s .entry)) f item ⌝ }
 {
-    match kept_at(s, f, item, 0) {
-        KeptAnswer::Refused(r) => MethodsAnswer::Refused(r),
-        KeptAnswer::Got {
-            counts,
-            members: _,
-            methods,
-            end: _,
-        } => MethodsAnswer::Got(Methods {
-            directs: counts.directs,
-            virtuals: counts.virtuals,
-            from: methods,
-        }),
+    match counts_at(s, item) {
+        CountsAnswer::Refused(r) => MethodsAnswer::Refused(r),
+        CountsAnswer::Got { counts, next } => {
+            let fields = Judge {
+                limit: f.fields,
+                code: false,
+                start: f.start,
+            };
+            match two_at(s, fields, item, next, counts.statics, counts.instances, 0) {
+                TwoAnswer::Refused(r) => MethodsAnswer::Refused(r),
+                TwoAnswer::Got {
+                    first: _,
+                    second: _,
+                    next: middle,
+                } => {
+                    let methods = Judge {
+                        limit: f.methods,
+                        code: true,
+                        start: f.start,
+                    };
+                    match two_at(s, methods, item, middle, counts.directs, counts.virtuals, 0) {
+                        TwoAnswer::Refused(r) => MethodsAnswer::Refused(r),
+                        TwoAnswer::Got {
+                            first: _,
+                            second: _,
+                            next: _,
+                        } => MethodsAnswer::Got(Methods {
+                            directs: counts.directs,
+                            virtuals: counts.virtuals,
+                            from: middle,
+                        }),
+                    }
+                }
+            }
+        }
     }
 }
 
