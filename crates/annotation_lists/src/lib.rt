@@ -85,8 +85,9 @@ fn offsets_pass(
     Checked::Accepted
 }
 
-// How many offsets a list has: its size, its length, then its offsets.
-fn offset_count(s: &[u8], f: Frame, item: usize, absent: bool, four: bool) -> Word
+// How many offsets a list has: its size, its length, then its offsets. The going over a set calls this itself and not `set_count`, which has other
+// callers and would not be compiled into it.
+pub fn offset_count(s: &[u8], f: Frame, item: usize, absent: bool, four: bool) -> Word
     ensures { λ r. ⌜ word-outcome r ≡ offsetCount (now (s .entry)) f item absent four ⌝ }
 {
     match word_at(s, f, item, item) {

@@ -40,7 +40,7 @@ fn items_pass(s: &[u8], f: Frame, from: usize, count: u32) -> Checked
 pub fn check_set(s: &[u8], f: Frame, item: usize) -> Checked
     ensures { λ r. ⌜ checked-outcome r ≡ setAccepted (now (s .entry)) f item ⌝ }
 {
-    match annotation_lists::set_count(s, f, item) {
+    match annotation_lists::offset_count(s, f, item, false, false) {
         Word::Refused(r) => Checked::Refused(r),
         Word::Got(count) => items_pass(s, f, item + 4, count),
     }

@@ -4,11 +4,11 @@ use Rattle.annotation_walk.proofs.check_set.Tie as tie
 use Rattle.annotation_walk.proofs.check_set.Reads as reads
 use Rattle.annotation_walk.proofs.check_set.Lts as lts
 use Rattle.annotation_walk.proofs.items_pass.Reads as items-pass-reads
-use Rattle.annotation_lists.proofs.set_count.Reads as set-count-reads
+use Rattle.annotation_lists.proofs.offset_count.Reads as offset-count-reads
 
 -- src/lib.rt:43:11
-set-count-requires : tie.Need-set-count-requires
-set-count-requires c κs = search laws
+offset-count-requires : tie.Need-offset-count-requires
+offset-count-requires c κs = search laws
 
 -- src/lib.rt:44:23
 enum-known-r : tie.Need-enum-known-r
@@ -38,7 +38,7 @@ pub check-set-spec : {M : Type 1} → statement M
 check-set-spec =
     tie.close
     (tie.spec
-    set-count-requires
+    offset-count-requires
     enum-known-r
     enum-known-count
     add-items-pass
