@@ -1,21 +1,19 @@
 -- The records' readings find exactly what the rules allow; and no two type numbers name the same string.
 -- Assumes nothing.
 use Prim.Native.Nat.{ℕ, _+_, _*_, _≤_, _<_}
-use mathlib.Core.Path.{_≡_, refl, ap, sym, subst, _∙_}
+use mathlib.Core.Path.{_≡_, refl, sym, subst}
 use mathlib.Core.Logic.{_⊎_, inl, inr}
 use mathlib.Core.Bool.{true}
 use mathlib.Core.List.{List}
 use lib.Dec.{ltb, leb}
 use native.Mathlib.Omega.{arith}
 use Rattle.refusal.specs.Exact.{Exact, At, Strict}
-use Rattle.refusal.proofs.Exact.{same, answer-exact, given-exact, either-exact, exact-iff, below, at-most, or-not}
+use Rattle.refusal.proofs.Exact.{answer-exact, given-exact, either-exact, exact-iff, below, at-most, or-not}
 use Rattle.refusal.proofs.Each.{in-turn-exact, rising-apart}
 use Rattle.word.specs.Words.{u16At, u32At}
 use Rattle.frame.specs.declared.Frame.{Frame}
 use Rattle.frame.specs.Offsets.{AllowedOrAbsent}
 use Rattle.frame.proofs.Laws.{or-absent-decides}
-use Rattle.ids.specs.declared.Proto.{Proto}
-use Rattle.ids.specs.declared.Member.{Member}
 use Rattle.ids.specs.declared.Handle.{Handle}
 use Rattle.ids.specs.Records.{typeOf, typeAt, typesAt, protoOf, protoAt, memberOf, memberAt, handleOf, handleAt}
 use Rattle.ids.specs.Rules.{TypeRule, TypesRule, ProtoRule, MemberRule, HandleRule}

@@ -3,7 +3,7 @@ use Prim.Native.Nat.{ℕ, _+_, _*_}
 use mathlib.Core.Bool.{true, cond}
 use mathlib.Core.List.{List}
 use lib.Dec.{ltb, leb}
-use Rattle.refusal.specs.Outcome.{Outcome, answer, given}
+use Rattle.refusal.specs.Outcome.{Outcome, answer, _>>=_, given, accepted}
 use Rattle.refusal.specs.Rows.{in-turn}
 use Rattle.word.specs.Words.{u16At, u32At}
 use Rattle.frame.specs.declared.Frame.{Frame}
@@ -44,6 +44,10 @@ memberOf r kinds place class kind name =
 
 unfoldable pub memberAt : List ℕ → Frame → ℕ → ℕ → ℕ → Outcome Member
 memberAt f r kinds offset n = memberOf r kinds (offset + 8 * n) (u16At (r .order) f (offset + 8 * n)) (u16At (r .order) f (offset + 8 * n + 2)) (u32At (r .order) f (offset + 8 * n + 4))
+
+-- a stage of the code: nothing of it is kept but that it obeys its rules
+abbrev pub memberChecked : List ℕ → Frame → ℕ → ℕ → ℕ → Outcome Unit
+memberChecked f r kinds offset n = memberAt f r kinds offset n >>= accepted
 
 -- "Handle types 0 to 3 name a field, 4 to 8 a method."
 unfoldable pub handleOf : Frame → ℕ → ℕ → ℕ → Outcome Handle

@@ -1,8 +1,10 @@
 // The records of types, protos, fields, methods and method handles. Each is read by where its table begins and its number in it.
 use frame::Frame;
+use refusal::Checked;
 use refusal::Refusal;
 ghost use mathlib.Core.Path.{_≡_};
-ghost use Rattle.ids.specs.Records.{typeAt, protoAt, memberAt, handleAt};
+ghost use Rattle.refusal.specs.Answers.{checked-outcome};
+ghost use Rattle.ids.specs.Records.{typeAt, protoAt, memberAt, memberChecked, handleAt};
 ghost use Rattle.ids.specs.Answers.{index-outcome, proto-outcome, member-outcome, handle-outcome};
 
 pub enum IndexAnswer {
@@ -83,9 +85,9 @@ pub fn proto_at(f: &[u8], r: Frame, end: usize, offset: u32, n: u32) -> ProtoAns
     ProtoAnswer::Refused(Refusal { number: 8, place })
 }
 
-// A field's or a method's own rules: `kinds` is how many types or protos there are.
-pub fn member_at(f: &[u8], r: Frame, kinds: u32, offset: u32, n: u32) -> MemberAnswer
-    ensures { λ a. ⌜ member-outcome a ≡ memberAt (now (f .entry)) r kinds offset n ⌝ }
+// A field's or a method's own rules: `kinds` is how many types or protos there are. Nothing is handed out, so that a loop over them copies nothing.
+pub fn check_member(f: &[u8], r: Frame, kinds: u32, offset: u32, n: u32) -> Checked
+    ensures { λ a. ⌜ checked-outcome a ≡ memberChecked (now (f .entry)) r kinds offset n ⌝ }
 {
     let order = r.order;
     let place = offset as usize + 8 * n as usize;
@@ -93,15 +95,31 @@ pub fn member_at(f: &[u8], r: Frame, kinds: u32, offset: u32, n: u32) -> MemberA
     let kind = word::u16_at(f, place + 2, order) as u32;
     let name = word::u32_at(f, place + 4, order);
     if r.types <= class {
-        return MemberAnswer::Refused(Refusal { number: 11, place });
+        return Checked::Refused(Refusal { number: 11, place });
     }
     if kinds <= kind {
-        return MemberAnswer::Refused(Refusal { number: 11, place });
+        return Checked::Refused(Refusal { number: 11, place });
     }
     if r.strings <= name {
-        return MemberAnswer::Refused(Refusal { number: 11, place });
+        return Checked::Refused(Refusal { number: 11, place });
     }
-    MemberAnswer::Got(Member { class, kind, name })
+    Checked::Accepted
+}
+
+// A field or a method, where it obeys them.
+pub fn member_at(f: &[u8], r: Frame, kinds: u32, offset: u32, n: u32) -> MemberAnswer
+    ensures { λ a. ⌜ member-outcome a ≡ memberAt (now (f .entry)) r kinds offset n ⌝ }
+{
+    let order = r.order;
+    let place = offset as usize + 8 * n as usize;
+    match check_member(f, r, kinds, offset, n) {
+        Checked::Refused(a) => MemberAnswer::Refused(a),
+        Checked::Accepted => MemberAnswer::Got(Member {
+            class: word::u16_at(f, place, order) as u32,
+            kind: word::u16_at(f, place + 2, order) as u32,
+            name: word::u32_at(f, place + 4, order),
+        }),
+    }
 }
 
 // A method handle's own rules: its kind, then the field or the method.

@@ -8,7 +8,7 @@ use borrow.Author.Needs.{needs}
 use Rattle.refusal.specs.declared.Refusal.{Refusal}
 use Rattle.refusal.specs.Outcome.{Outcome, answer, refused, _>>=_, accepted}
 use Rattle.refusal.specs.Rows.{every}
-use Rattle.refusal.proofs.Laws.{calls, tests}
+use Rattle.refusal.proofs.Laws.{calls}
 use Rattle.refusal.proofs.Rows.{bind-assoc}
 use Rattle.refusal.proofs.Kept.{kept, kept-part, kept-on, made-kept}
 use Rattle.frame.specs.declared.Frame.{Frame}
@@ -19,14 +19,14 @@ use Rattle.header.proofs.Laws.{laws as header-laws}
 use Rattle.map_list.specs.declared.MapList.{MapList}
 use Rattle.map_list.specs.Map.{Map, mapAt, keptAt}
 use Rattle.map_list.proofs.Laws.{laws as map-laws}
-use Rattle.ids.specs.Records.{typesAt, memberAt, handleAt}
+use Rattle.ids.specs.Records.{typesAt}
 use Rattle.string_ids.specs.Strings.{stringsAt, lookedUp}
 use Rattle.string_ids.specs.declared.Found.{Found}
 use Rattle.string_ids.specs.declared.Lookup.{Lookup}
 use Rattle.string_ids.specs.declared.Lookup.the-variants as K
 use Rattle.string_ids.specs.Answers.{lookup-outcome}
 use Rattle.class_walk.specs.Classes as C
-use Rattle.whole_check.specs.File.{File, protoBelow, fieldAt, methodAt, handleIn, tablesAt, fileAt, checkAt}
+use Rattle.whole_check.specs.File.{protoBelow, fieldAt, methodAt, handleIn, tablesAt, fileAt, checkAt}
 use Rattle.whole_check.specs.Passes.{typesPass, membersPass, handlesPass, stringsPass, protosPass, classesPass, namesPass, recordsPass, itemsPass, tablesPass, passIn}
 
 module _ (f : List ℕ) (h : Header) where

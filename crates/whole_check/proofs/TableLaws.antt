@@ -3,7 +3,7 @@
 use Prim.Native.Nat.{ℕ, _+_, _*_, _-_, _<_, _≤_}
 use mathlib.Core.Path.{_≡_, refl, ap, sym, _∙_}
 use mathlib.Core.Bool.{Bool, true, false}
-use mathlib.Core.Option.{Option, none, some}
+use mathlib.Core.Option.{Option}
 use mathlib.Core.List.{List}
 use lib.Dec.{ltb}
 use borrow.Author.Needs.{needs}
@@ -16,17 +16,16 @@ use Rattle.refusal.specs.declared.Checked.the-variants as C
 use Rattle.refusal.specs.Outcome.{Outcome, answer, refused, _>>=_, accepted}
 use Rattle.refusal.specs.Rows.{every, follows}
 use Rattle.refusal.specs.Answers.{checked-outcome}
-use Rattle.refusal.proofs.Laws.{said, calls, tests}
-use Rattle.refusal.proofs.Kept.{kept, accepted-answer, accepted-refused, kept-part}
+use Rattle.refusal.proofs.Laws.{calls}
+use Rattle.refusal.proofs.Kept.{accepted-answer, accepted-refused}
 use Rattle.refusal.proofs.Loops.{Numbers, numbers-first, numbers-next, numbers-stop, numbers-done, Turns, turns-first, turns-next, turns-stop, turns-fail, turns-done}
 use Rattle.frame.specs.declared.Frame.{Frame}
 use Rattle.header.specs.declared.Header.{Header}
 use Rattle.header.specs.Header.{frame-of}
 use Rattle.ids.specs.declared.Proto.{Proto}
-use Rattle.ids.specs.declared.ProtoAnswer.{ProtoAnswer}
 use Rattle.ids.specs.declared.IndexAnswer.{IndexAnswer}
 use Rattle.ids.specs.declared.IndexAnswer.the-variants as I
-use Rattle.ids.specs.Answers.{index-outcome, proto-outcome}
+use Rattle.ids.specs.Answers.{index-outcome}
 use Rattle.ids.specs.Records.{typeAt, typesAt, protoAt}
 use Rattle.ids.proofs.Laws.{laws as id-laws}
 use Rattle.class_walk.specs.Classes as W

@@ -4,13 +4,12 @@ use mathlib.Core.Bool.{Bool, cond}
 use mathlib.Core.Option.{Option, none, some}
 use mathlib.Core.List.{List}
 use lib.Dec.{ltb}
-use Rattle.refusal.specs.Outcome.{Outcome, answer, _>>=_, accepted}
+use Rattle.refusal.specs.Outcome.{Outcome, _>>=_, accepted}
 use Rattle.refusal.specs.Rows.{every, follows}
 use Rattle.frame.specs.declared.Frame.{Frame}
 use Rattle.header.specs.declared.Header.{Header}
 use Rattle.header.specs.declared.Table.{Table}
 use Rattle.header.specs.Header.{frame-of}
-use Rattle.map_list.specs.declared.MapList.{MapList}
 use Rattle.map_list.specs.Map.{keptAt}
 use Rattle.ids.specs.Records.{typesAt, memberAt, handleAt}
 use Rattle.string_ids.specs.Strings.{stringsAt}
@@ -26,9 +25,6 @@ rising later last string = follows ltb (last-of later last) string
 
 abbrev pub typesPass : List ℕ → Frame → ℕ → ℕ → Outcome Unit
 typesPass f r offset count = typesAt f r offset count >>= accepted
-
-abbrev pub memberPass : List ℕ → Frame → ℕ → ℕ → ℕ → Outcome Unit
-memberPass f r kinds offset n = memberAt f r kinds offset n >>= accepted
 
 abbrev pub membersPass : List ℕ → Frame → ℕ → ℕ → ℕ → Outcome Unit
 membersPass f r kinds offset count = every (memberAt f r kinds offset) count >>= accepted

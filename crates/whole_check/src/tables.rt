@@ -3,14 +3,13 @@ use frame::Frame;
 use header::Header;
 use ids::HandleAnswer;
 use ids::IndexAnswer;
-use ids::MemberAnswer;
 use ids::ProtoAnswer;
 use refusal::Checked;
 use refusal::Refusal;
 ghost use mathlib.Core.Path.{_≡_};
 ghost use Prim.Native.Nat.{_+_, _*_};
 ghost use Rattle.refusal.specs.Answers.{checked-outcome};
-ghost use Rattle.whole_check.specs.Passes.{rising, typesPass, protoPass, protosPass, memberPass, membersPass, handlePass, handlesPass, classesPass};
+ghost use Rattle.whole_check.specs.Passes.{rising, typesPass, protoPass, protosPass, membersPass, handlePass, handlesPass, classesPass};
 
 // Does a type's string come after the last one, if there was one.
 fn rises(later: bool, last: u32, string: u32) -> bool
@@ -90,23 +89,14 @@ pub fn protos_pass(f: &[u8], h: Header, count: u32) -> Checked
     Checked::Accepted
 }
 
-// Field or method n: `kinds` counts types for a field, protos for a method.
-fn member_pass(f: &[u8], r: Frame, kinds: u32, offset: u32, n: u32) -> Checked
-    ensures { λ a. ⌜ checked-outcome a ≡ memberPass (now (f .entry)) r kinds offset n ⌝ }
-{
-    match ids::member_at(f, r, kinds, offset, n) {
-        MemberAnswer::Refused(a) => Checked::Refused(a),
-        MemberAnswer::Got(_) => Checked::Accepted,
-    }
-}
-
+// The fields or the methods: `kinds` counts types for fields, protos for methods.
 pub fn members_pass(f: &[u8], r: Frame, kinds: u32, offset: u32, count: u32) -> Checked
     ensures { λ a. ⌜ checked-outcome a ≡ membersPass (now (f .entry)) r kinds offset count ⌝ }
 {
     let mut k: u32 = 0;
     let mut left = count;
     while 0 < left {
-        match member_pass(f, r, kinds, offset, k) {
+        match ids::check_member(f, r, kinds, offset, k) {
             Checked::Refused(a) => {
                 return Checked::Refused(a);
             }

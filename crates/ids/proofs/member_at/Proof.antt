@@ -1,67 +1,67 @@
-use Rattle.ids.proofs.Laws.{own-laws as laws}
-use Rattle.ids.specs.Records.{memberOf}
+use Rattle.ids.proofs.Laws.{member-laws as laws}
 use Rattle.ids.proofs.member_at.Statement.{statement}
 use Rattle.ids.proofs.member_at.Tie as tie
 use Rattle.ids.proofs.member_at.Reads as reads
 use Rattle.ids.proofs.member_at.Lts as lts
+use Rattle.ids.proofs.check_member.Reads as check-member-reads
 use Rattle.word.proofs.u16_at.Reads as u16-at-reads
 use Rattle.word.proofs.u32_at.Reads as u32-at-reads
 
--- src/lib.rt:91:35
+-- src/lib.rt:114:35
 mul-place : tie.Need-mul-place
-mul-place c = search laws depth 7
+mul-place c = search laws
 
--- src/lib.rt:91:17
+-- src/lib.rt:114:17
 add-place : tie.Need-add-place
-add-place c = search laws depth 7
+add-place c = search laws
 
--- src/lib.rt:92:17
+-- src/lib.rt:115:11
+check-member-requires : tie.Need-check-member-requires
+check-member-requires c κs = search laws
+
+-- src/lib.rt:116:26
+enum-known-a : tie.Need-enum-known-a
+enum-known-a c = search laws
+
+-- src/lib.rt:118:20
+enum-told : tie.Need-enum-told
+enum-told c = search laws
+
+-- src/lib.rt:118:20
 u16-at-requires : tie.Need-u16-at-requires
-u16-at-requires c κs = search laws depth 7
+u16-at-requires c κs = search laws
 
--- src/lib.rt:92:17
-cast-class : tie.Need-cast-class
-cast-class c = search laws depth 7
+-- src/lib.rt:118:20
+cast-t15 : tie.Need-cast-t15
+cast-t15 c = search laws
 
--- src/lib.rt:93:32
+-- src/lib.rt:119:35
 add-u16-at : tie.Need-add-u16-at
-add-u16-at c = search laws depth 7
+add-u16-at c = search laws
 
--- src/lib.rt:93:16
+-- src/lib.rt:119:19
 u16-at-requires-2 : tie.Need-u16-at-requires-2
-u16-at-requires-2 c κs = search laws depth 7
+u16-at-requires-2 c κs = search laws
 
--- src/lib.rt:93:16
-cast-kind : tie.Need-cast-kind
-cast-kind c = search laws depth 7
+-- src/lib.rt:119:19
+cast-t18 : tie.Need-cast-t18
+cast-t18 c = search laws
 
--- src/lib.rt:94:32
+-- src/lib.rt:120:35
 add-u32-at : tie.Need-add-u32-at
-add-u32-at c = search laws depth 7
+add-u32-at c = search laws
 
--- src/lib.rt:94:9
+-- src/lib.rt:120:19
 u32-at-requires : tie.Need-u32-at-requires
-u32-at-requires c κs = search laws depth 7
+u32-at-requires c κs = search laws
 
--- src/lib.rt:96:9
+-- src/lib.rt:110:1
 returns : tie.Need-returns
-unfolding memberOf
-returns c = search laws depth 7
+returns c = search laws
 
--- src/lib.rt:99:9
+-- src/lib.rt:110:1
 returns-2 : tie.Need-returns-2
-unfolding memberOf
-returns-2 c = search laws depth 7
-
--- src/lib.rt:102:9
-returns-3 : tie.Need-returns-3
-unfolding memberOf
-returns-3 c = search laws depth 7
-
--- src/lib.rt:87:1
-returns-4 : tie.Need-returns-4
-unfolding memberOf
-returns-4 c = search laws depth 7
+returns-2 c = search laws
 
 pub member-at-spec : {M : Type 1} → statement M
 member-at-spec =
@@ -69,14 +69,15 @@ member-at-spec =
     (tie.spec
     mul-place
     add-place
+    check-member-requires
+    enum-known-a
+    enum-told
     u16-at-requires
-    cast-class
+    cast-t15
     add-u16-at
     u16-at-requires-2
-    cast-kind
+    cast-t18
     add-u32-at
     u32-at-requires
     returns
-    returns-2
-    returns-3
-    returns-4)
+    returns-2)

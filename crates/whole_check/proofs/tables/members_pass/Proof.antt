@@ -4,7 +4,7 @@ use Rattle.whole_check.proofs.tables.members_pass.Statement.{statement}
 use Rattle.whole_check.proofs.tables.members_pass.Tie as tie
 use Rattle.whole_check.proofs.tables.members_pass.Reads as reads
 use Rattle.whole_check.proofs.tables.members_pass.Lts as lts
-use Rattle.whole_check.proofs.tables.member_pass.Reads as member-pass-reads
+use Rattle.ids.proofs.check_member.Reads as check-member-reads
 
 abbrev Inv-loop : tie.InvT-loop
 Inv-loop f r kinds offset count k₀ left₀ k left = Counting (memberAt f r kinds offset) count left k
@@ -17,8 +17,8 @@ loop-holds : tie.Need-loop-holds Inv-loop μ-loop
 loop-holds c = search laws
 
 -- src/tables.rt:101:15
-member-pass-requires : tie.Need-member-pass-requires Inv-loop μ-loop
-member-pass-requires c κs = search laws
+check-member-requires : tie.Need-check-member-requires Inv-loop μ-loop
+check-member-requires c κs = search laws
 
 -- src/tables.rt:102:30
 enum-known-a : tie.Need-enum-known-a Inv-loop μ-loop
@@ -59,7 +59,7 @@ members-pass-spec =
     Inv-loop
     μ-loop
     loop-holds
-    member-pass-requires
+    check-member-requires
     enum-known-a
     returns
     enum-told
