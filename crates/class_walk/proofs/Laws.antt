@@ -122,6 +122,30 @@ pub going-done : {s : List ℕ} {f : Frame} {item from count left p : ℕ} {last
 unfolding methodsPass
 going-done h l = let r = gather-done (h .gather) l in sym (bind-answer _ (sym (r .1 .0)) ∙ ap (λ (t : Run). answer (t .place)) (r .1 .1))
 
+-- ---- the same, where of the last member its index alone is held
+pub record Goes (s : List ℕ) (f : Frame) (item from count left p base : ℕ) (later : Bool) : Type 0 where
+  last : Member
+  base-is : last .index ≡ base
+  goes : Going s f item from count left p last later
+
+pub goes-first : (s : List ℕ) (f : Frame) (item from count : ℕ) → Goes s f item from count count from 0 false
+goes-first s f item from count = record { last = nobody; base-is = refl; goes = going-first s f item from count }
+
+module _ {s : List ℕ} {f : Frame} {item from count left p base : ℕ} {later : Bool} (h : Goes s f item from count left p base later)
+    {x : MemberFound} (l : 0 < left) (e : found-outcome x ≡ memberAt s (methods-judge f) item base later p) where
+  pub goes-stop : {r : Refusal} → x ≡ F.Refused r → refused r ≡ methodsPass s f item from count
+  goes-stop t = going-stop (h .goes) l (e ∙ ap (λ (b : ℕ). memberAt s (methods-judge f) item b later p) (sym (h .base-is))) t
+
+  module _ {m : Member} {n : ℕ} (t : x ≡ F.Got m n) {y : Checked} (g : checked-outcome y ≡ (present (m .code) (bodyAt s f (m .code)) >>= accepted)) where
+    pub goes-next : y ≡ C.Accepted → Goes s f item from count (left - 1) n (m .index) true
+    goes-next u = record { last = m; base-is = refl; goes = going-next (h .goes) l (e ∙ ap (λ (b : ℕ). memberAt s (methods-judge f) item b later p) (sym (h .base-is))) t g u }
+
+    pub goes-fail : {r : Refusal} → y ≡ C.Refused r → refused r ≡ methodsPass s f item from count
+    goes-fail u = going-fail (h .goes) l (e ∙ ap (λ (b : ℕ). memberAt s (methods-judge f) item b later p) (sym (h .base-is))) t g u
+
+pub goes-done : {s : List ℕ} {f : Frame} {item from count left p base : ℕ} {later : Bool} → Goes s f item from count left p base later → left ≤ 0 → answer p ≡ methodsPass s f item from count
+goes-done h l = going-done (h .goes) l
+
 -- ---- class data: what is gone over a second time is what was read
 module _ (s : List ℕ) (f : Frame) (item : ℕ) where
   abbrev to : ℕ → List (Option Body) → Outcome ℕ
@@ -217,7 +241,7 @@ module _ (f : List ℕ) (h : Header) (handles : ℕ) where
 
 pub ruleset body-laws = (debug-by, on-debug, body-by, on-code, kept, calls, tests, needs)
 
-pub ruleset loop-laws = (going-first, going-next, going-stop, going-fail, going-done, needs)
+pub ruleset loop-laws = (goes-first, goes-next, goes-stop, goes-fail, goes-done, needs)
 
 pub ruleset data-laws = (data-by, on-methods, on-passed, calls, needs)
 

@@ -4,7 +4,6 @@ use class_data::Methods;
 use class_data::MethodsAnswer;
 use class_ids::ClassAnswer;
 use class_members::Judge;
-use class_members::Member;
 use class_members::MemberFound;
 use code_item::CodeAnswer;
 use debug_info::DebugAnswer;
@@ -77,15 +76,11 @@ fn methods_pass(s: &[u8], f: Frame, item: usize, from: usize, count: u32) -> Pas
         start: f.start,
     };
     let mut p = from;
-    let mut last = Member {
-        index: 0,
-        flags: 0,
-        code: 0,
-    };
+    let mut last: u32 = 0;
     let mut later = false;
     let mut left = count;
     while 0 < left {
-        match class_members::member_found(s, judge, item, last.index, later, p) {
+        match class_members::member_found(s, judge, item, last, later, p) {
             MemberFound::Refused(r) => {
                 return Passed::Refused(r);
             }
@@ -94,7 +89,7 @@ fn methods_pass(s: &[u8], f: Frame, item: usize, from: usize, count: u32) -> Pas
                     return Passed::Refused(r);
                 }
                 Checked::Accepted => {
-                    last = member;
+                    last = member.index;
                     p = next;
                 }
             },
