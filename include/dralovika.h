@@ -1,7 +1,7 @@
 /*
  * Dralovika: a proved reader of DEX files, for C.
  *
- * Link with libcapi.a (compare/build makes it). Nothing is allocated, nothing is kept between calls, no call waits or fails: a function reads the
+ * Link with libdralovika.a (compare/build makes it). Nothing is allocated, nothing is kept between calls, no call waits or fails: a function reads the
  * lent file and writes its answer. Any bytes may be given as a file, and any numbers.
  *
  * A file is a pointer and a length. A length of 0 takes any pointer that is not null. Nothing may write to the file or to an output during a call,
