@@ -1,0 +1,23 @@
+use Rattle.dralovika.proofs.Laws.{laws}
+use Rattle.dralovika.proofs.values.dralovika_annotation_body_element.Statement.{statement}
+use Rattle.dralovika.proofs.values.dralovika_annotation_body_element.Tie as tie
+use Rattle.dralovika.proofs.values.dralovika_annotation_body_element.Reads as reads
+use Rattle.dralovika.proofs.values.dralovika_annotation_body_element.Lts as lts
+use Rattle.answer_rows.proofs.element_row.Reads as element-row-reads
+use Rattle.value_readers.proofs.annotation_body_element.Reads as annotation-body-element-reads
+
+-- src/values.rt:39:37
+annotation-body-element-requires : tie.Need-annotation-body-element-requires
+annotation-body-element-requires c κs = search laws
+
+-- src/values.rt:39:12
+element-row-requires : tie.Need-element-row-requires
+element-row-requires c κs = search laws
+
+-- src/values.rt:30:1
+returns : tie.Need-returns
+returns c = search laws
+
+pub dralovika-annotation-body-element-spec : {M : Type 1} → statement M
+dralovika-annotation-body-element-spec =
+    tie.close (tie.spec annotation-body-element-requires element-row-requires returns)
