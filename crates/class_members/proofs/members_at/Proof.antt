@@ -12,47 +12,36 @@ Inv-loop s j item from count k p₀ last₀ later₀ kept₀ i₀ left₀ p last
 abbrev μ-loop : tie.MeasureT-loop
 μ-loop s j item from count k p₀ last₀ later₀ kept₀ i₀ left₀ p last later kept i left = left
 
--- src/lib.rt:197:5
 loop-holds : tie.Need-loop-holds Inv-loop μ-loop
 loop-holds c = search laws
 
--- src/lib.rt:198:15
 member-found-requires : tie.Need-member-found-requires Inv-loop μ-loop
 member-found-requires c κs = search laws
 
--- src/lib.rt:199:34
 enum-known-r : tie.Need-enum-known-r Inv-loop μ-loop
 enum-known-r c = search laws
 
--- src/lib.rt:200:17
 returns : tie.Need-returns Inv-loop μ-loop
 returns c = search laws
 
--- src/lib.rt:202:32
 enum-known-member : tie.Need-enum-known-member Inv-loop μ-loop
 enum-known-member c = search laws
 
--- src/lib.rt:203:17
 newer-requires : tie.Need-newer-requires Inv-loop μ-loop
 newer-requires c κs = search laws
 
--- src/lib.rt:209:9
 add-i : tie.Need-add-i Inv-loop μ-loop
 add-i c = search laws
 
--- src/lib.rt:210:9
 sub-left : tie.Need-sub-left Inv-loop μ-loop
 sub-left c = search laws
 
--- src/lib.rt:197:5
 loop-less : tie.Need-loop-less Inv-loop μ-loop
 loop-less c = search laws
 
--- src/lib.rt:197:5
 loop-again : tie.Need-loop-again Inv-loop μ-loop
 loop-again c = search laws
 
--- src/lib.rt:180:1
 returns-2 : tie.Need-returns-2 Inv-loop μ-loop
 returns-2 c = search laws
 

@@ -5,59 +5,45 @@ use Rattle.leb128.proofs.sleb.Reads as reads
 use Rattle.leb128.proofs.sleb.Lts as lts
 use Rattle.leb128.proofs.weigh.Reads as weigh-reads
 
--- src/lib.rt:94:11
 weigh-requires : tie.Need-weigh-requires
 weigh-requires c κs = search laws
 
--- src/lib.rt:95:26
 enum-known-r : tie.Need-enum-known-r
 enum-known-r c = search laws
 
--- src/lib.rt:96:24
 enum-known-value : tie.Need-enum-known-value
 enum-known-value c = search laws
 
--- src/lib.rt:97:16
 mul-if1 : tie.Need-mul-if1
 mul-if1 c = search laws
 
--- src/lib.rt:100:32
 cast-t15 : tie.Need-cast-t15
 cast-t15 c = search laws
 
--- src/lib.rt:99:21
 returns : tie.Need-returns
 returns c = search laws
 
--- src/lib.rt:104:17
 returns-2 : tie.Need-returns-2
 returns-2 c = search laws
 
--- src/lib.rt:109:25
 sub-below : tie.Need-sub-below
 sub-below c = search laws
 
--- src/lib.rt:111:28
 sub-low : tie.Need-sub-low
 sub-low c = search laws
 
--- src/lib.rt:111:27
 cast-low : tie.Need-cast-low
 cast-low c = search laws
 
--- src/lib.rt:113:28
 sub-t18 : tie.Need-sub-t18
 sub-t18 c = search laws
 
--- src/lib.rt:112:17
 returns-3 : tie.Need-returns-3
 returns-3 c = search laws
 
--- src/lib.rt:91:1
 returns-4 : tie.Need-returns-4
 returns-4 c = search laws
 
--- src/lib.rt:91:1
 returns-5 : tie.Need-returns-5
 returns-5 c = search laws
 

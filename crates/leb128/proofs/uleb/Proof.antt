@@ -5,31 +5,24 @@ use Rattle.leb128.proofs.uleb.Reads as reads
 use Rattle.leb128.proofs.uleb.Lts as lts
 use Rattle.leb128.proofs.weigh.Reads as weigh-reads
 
--- src/lib.rt:69:11
 weigh-requires : tie.Need-weigh-requires
 weigh-requires c κs = search laws
 
--- src/lib.rt:70:26
 enum-known-r : tie.Need-enum-known-r
 enum-known-r c = search laws
 
--- src/lib.rt:72:13
 enum-known-value : tie.Need-enum-known-value
 enum-known-value c = search laws
 
--- src/lib.rt:78:28
 cast-t10 : tie.Need-cast-t10
 cast-t10 c = search laws
 
--- src/lib.rt:77:17
 returns : tie.Need-returns
 returns c = search laws
 
--- src/lib.rt:66:1
 returns-2 : tie.Need-returns-2
 returns-2 c = search laws
 
--- src/lib.rt:66:1
 returns-3 : tie.Need-returns-3
 returns-3 c = search laws
 

@@ -4,67 +4,51 @@ use Rattle.word.proofs.u32_of.Tie as tie
 use Rattle.word.proofs.u32_of.Reads as reads
 use Rattle.word.proofs.u32_of.Lts as lts
 
--- src/lib.rt:52:27
 enum-told : tie.Need-enum-told
 enum-told c = search laws
 
--- src/lib.rt:52:38
 mul-result : tie.Need-mul-result
 mul-result c = search laws
 
--- src/lib.rt:52:27
 add-result : tie.Need-add-result
 add-result c = search laws
 
--- src/lib.rt:52:55
 mul-result-2 : tie.Need-mul-result-2
 mul-result-2 c = search laws
 
--- src/lib.rt:52:27
 add-result-2 : tie.Need-add-result-2
 add-result-2 c = search laws
 
--- src/lib.rt:52:74
 mul-result-3 : tie.Need-mul-result-3
 mul-result-3 c = search laws
 
--- src/lib.rt:52:27
 add-result-3 : tie.Need-add-result-3
 add-result-3 c = search laws
 
--- src/lib.rt:53:35
 enum-told-2 : tie.Need-enum-told-2
 enum-told-2 c = search laws
 
--- src/lib.rt:53:24
 mul-result-4 : tie.Need-mul-result-4
 mul-result-4 c = search laws
 
--- src/lib.rt:53:46
 mul-result-5 : tie.Need-mul-result-5
 mul-result-5 c = search laws
 
--- src/lib.rt:53:24
 add-result-4 : tie.Need-add-result-4
 add-result-4 c = search laws
 
--- src/lib.rt:53:65
 mul-result-6 : tie.Need-mul-result-6
 mul-result-6 c = search laws
 
--- src/lib.rt:53:24
 add-result-5 : tie.Need-add-result-5
 add-result-5 c = search laws
 
--- src/lib.rt:53:24
 add-result-6 : tie.Need-add-result-6
 add-result-6 c = search laws
 
--- src/lib.rt:48:1
 returns : tie.Need-returns
 returns c = search laws
 
--- src/lib.rt:48:1
 returns-2 : tie.Need-returns-2
 returns-2 c = search laws
 
