@@ -6,23 +6,18 @@ use Rattle.access_flags.proofs.flags_into.Lts as lts
 use Rattle.access_flags.proofs.count_of.Reads as count-of-reads
 use Rattle.access_flags.proofs.fill.Reads as fill-reads
 
--- src/lib.rt:82:9
 count-of-requires : tie.Need-count-of-requires
 count-of-requires c κs = search laws
 
--- src/lib.rt:84:9
 returns : tie.Need-returns
 returns c = search laws
 
--- src/lib.rt:89:5
 fill-requires : tie.Need-fill-requires
 fill-requires c κs = search laws
 
--- src/lib.rt:78:1
 same-length : tie.Need-same-length
 same-length c = search laws
 
--- src/lib.rt:78:1
 returns-2 : tie.Need-returns-2
 returns-2 c = search laws
 

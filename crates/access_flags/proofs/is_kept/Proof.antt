@@ -4,19 +4,15 @@ use Rattle.access_flags.proofs.is_kept.Tie as tie
 use Rattle.access_flags.proofs.is_kept.Reads as reads
 use Rattle.access_flags.proofs.is_kept.Lts as lts
 
--- src/lib.rt:19:9
 returns : tie.Need-returns
 returns c = search laws
 
--- src/lib.rt:23:13
 returns-2 : tie.Need-returns-2
 returns-2 c = search laws
 
--- src/lib.rt:25:9
 returns-3 : tie.Need-returns-3
 returns-3 c = search laws
 
--- src/lib.rt:15:1
 returns-4 : tie.Need-returns-4
 returns-4 c = search laws
 

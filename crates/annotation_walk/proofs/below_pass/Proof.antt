@@ -14,55 +14,42 @@ Inv-loop s f parameter from count order at₀ left₀ at left = Along (oneFrom s
 abbrev μ-loop : tie.MeasureT-loop
 μ-loop s f parameter from count order at₀ left₀ at left = left
 
--- src/lib.rt:109:5
 loop-holds : tie.Need-loop-holds Inv-loop μ-loop
 loop-holds c = search laws
 
--- src/lib.rt:110:58
 add-u32-at : tie.Need-add-u32-at Inv-loop μ-loop
 add-u32-at c = search laws
 
--- src/lib.rt:110:42
 u32-at-requires : tie.Need-u32-at-requires Inv-loop μ-loop
 u32-at-requires c κs = search laws
 
--- src/lib.rt:110:42
 cast-one-below : tie.Need-cast-one-below Inv-loop μ-loop
 cast-one-below c = search laws
 
--- src/lib.rt:110:15
 one-below-requires : tie.Need-one-below-requires Inv-loop μ-loop
 one-below-requires c κs = search laws
 
--- src/lib.rt:111:30
 enum-known-r : tie.Need-enum-known-r Inv-loop μ-loop
 enum-known-r c = search laws
 
--- src/lib.rt:112:17
 returns : tie.Need-returns Inv-loop μ-loop
 returns c = search laws
 
--- src/lib.rt:115:17
 enum-told : tie.Need-enum-told Inv-loop μ-loop
 enum-told c = search laws
 
--- src/lib.rt:115:17
 add-at : tie.Need-add-at Inv-loop μ-loop
 add-at c = search laws
 
--- src/lib.rt:118:9
 sub-left : tie.Need-sub-left Inv-loop μ-loop
 sub-left c = search laws
 
--- src/lib.rt:109:5
 loop-less : tie.Need-loop-less Inv-loop μ-loop
 loop-less c = search laws
 
--- src/lib.rt:109:5
 loop-again : tie.Need-loop-again Inv-loop μ-loop
 loop-again c = search laws
 
--- src/lib.rt:102:1
 returns-2 : tie.Need-returns-2 Inv-loop μ-loop
 returns-2 c = search laws
 

@@ -6,27 +6,21 @@ use Rattle.annotation_walk.proofs.check_directory.Lts as lts
 use Rattle.annotation_walk.proofs.lists_below.Reads as lists-below-reads
 use Rattle.annotation_directories.proofs.directory.Reads as directory-reads
 
--- src/lib.rt:147:11
 directory-requires : tie.Need-directory-requires
 directory-requires c κs = search laws
 
--- src/lib.rt:148:29
 enum-known-r : tie.Need-enum-known-r
 enum-known-r c = search laws
 
--- src/lib.rt:149:25
 enum-known-h : tie.Need-enum-known-h
 enum-known-h c = search laws
 
--- src/lib.rt:149:31
 lists-below-requires : tie.Need-lists-below-requires
 lists-below-requires c κs = search laws
 
--- src/lib.rt:144:1
 returns : tie.Need-returns
 returns c = search laws
 
--- src/lib.rt:144:1
 returns-2 : tie.Need-returns-2
 returns-2 c = search laws
 

@@ -6,31 +6,24 @@ use Rattle.annotation_walk.proofs.check_references.Lts as lts
 use Rattle.annotation_walk.proofs.sets_pass.Reads as sets-pass-reads
 use Rattle.annotation_lists.proofs.reference_count.Reads as reference-count-reads
 
--- src/lib.rt:85:11
 reference-count-requires : tie.Need-reference-count-requires
 reference-count-requires c κs = search laws
 
--- src/lib.rt:86:23
 enum-known-r : tie.Need-enum-known-r
 enum-known-r c = search laws
 
--- src/lib.rt:87:19
 enum-known-count : tie.Need-enum-known-count
 enum-known-count c = search laws
 
--- src/lib.rt:87:45
 add-sets-pass : tie.Need-add-sets-pass
 add-sets-pass c = search laws
 
--- src/lib.rt:87:29
 sets-pass-requires : tie.Need-sets-pass-requires
 sets-pass-requires c κs = search laws
 
--- src/lib.rt:82:1
 returns : tie.Need-returns
 returns c = search laws
 
--- src/lib.rt:82:1
 returns-2 : tie.Need-returns-2
 returns-2 c = search laws
 

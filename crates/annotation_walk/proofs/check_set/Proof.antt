@@ -6,31 +6,24 @@ use Rattle.annotation_walk.proofs.check_set.Lts as lts
 use Rattle.annotation_walk.proofs.items_pass.Reads as items-pass-reads
 use Rattle.annotation_lists.proofs.offset_count.Reads as offset-count-reads
 
--- src/lib.rt:43:11
 offset-count-requires : tie.Need-offset-count-requires
 offset-count-requires c κs = search laws
 
--- src/lib.rt:44:23
 enum-known-r : tie.Need-enum-known-r
 enum-known-r c = search laws
 
--- src/lib.rt:45:19
 enum-known-count : tie.Need-enum-known-count
 enum-known-count c = search laws
 
--- src/lib.rt:45:46
 add-items-pass : tie.Need-add-items-pass
 add-items-pass c = search laws
 
--- src/lib.rt:45:29
 items-pass-requires : tie.Need-items-pass-requires
 items-pass-requires c κs = search laws
 
--- src/lib.rt:40:1
 returns : tie.Need-returns
 returns c = search laws
 
--- src/lib.rt:40:1
 returns-2 : tie.Need-returns-2
 returns-2 c = search laws
 

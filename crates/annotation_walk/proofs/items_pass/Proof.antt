@@ -14,51 +14,39 @@ Inv-loop s f from count order at₀ left₀ at left = Along (itemFrom s f) s 4 f
 abbrev μ-loop : tie.MeasureT-loop
 μ-loop s f from count order at₀ left₀ at left = left
 
--- src/lib.rt:25:5
 loop-holds : tie.Need-loop-holds Inv-loop μ-loop
 loop-holds c = search laws
 
--- src/lib.rt:26:50
 u32-at-requires : tie.Need-u32-at-requires Inv-loop μ-loop
 u32-at-requires c κs = search laws
 
--- src/lib.rt:26:50
 cast-annotation-item : tie.Need-cast-annotation-item Inv-loop μ-loop
 cast-annotation-item c = search laws
 
--- src/lib.rt:26:15
 annotation-item-requires : tie.Need-annotation-item-requires Inv-loop μ-loop
 annotation-item-requires c κs = search laws
 
--- src/lib.rt:27:33
 enum-known-r : tie.Need-enum-known-r Inv-loop μ-loop
 enum-known-r c = search laws
 
--- src/lib.rt:28:17
 returns : tie.Need-returns Inv-loop μ-loop
 returns c = search laws
 
--- src/lib.rt:31:17
 enum-told : tie.Need-enum-told Inv-loop μ-loop
 enum-told c = search laws
 
--- src/lib.rt:31:17
 add-at : tie.Need-add-at Inv-loop μ-loop
 add-at c = search laws
 
--- src/lib.rt:34:9
 sub-left : tie.Need-sub-left Inv-loop μ-loop
 sub-left c = search laws
 
--- src/lib.rt:25:5
 loop-less : tie.Need-loop-less Inv-loop μ-loop
 loop-less c = search laws
 
--- src/lib.rt:25:5
 loop-again : tie.Need-loop-again Inv-loop μ-loop
 loop-again c = search laws
 
--- src/lib.rt:18:1
 returns-2 : tie.Need-returns-2 Inv-loop μ-loop
 returns-2 c = search laws
 

@@ -7,94 +7,72 @@ use Rattle.annotation_walk.proofs.lists_below.Lts as lts
 use Rattle.annotation_walk.proofs.below_pass.Reads as below-pass-reads
 use Rattle.annotation_walk.proofs.own_set.Reads as own-set-reads
 
--- src/lib.rt:128:19
 add-methods : tie.Need-add-methods
 add-methods c = search laws depth 9
 
--- src/lib.rt:128:35
 cast-methods : tie.Need-cast-methods
 cast-methods c = search laws depth 9
 
--- src/lib.rt:128:31
 mul-methods : tie.Need-mul-methods
 mul-methods c = search laws depth 9
 
--- src/lib.rt:128:19
 add-methods-2 : tie.Need-add-methods-2
 add-methods-2 c = search laws depth 9
 
--- src/lib.rt:129:11
 own-set-requires : tie.Need-own-set-requires
 own-set-requires c κs = search laws depth 9
 
--- src/lib.rt:130:26
 enum-known-r : tie.Need-enum-known-r
 enum-known-r c = search laws depth 9
 
--- src/lib.rt:131:60
 enum-told : tie.Need-enum-told
 enum-told c = search laws depth 9
 
--- src/lib.rt:131:60
 add-below-pass : tie.Need-add-below-pass
 add-below-pass c = search laws depth 9
 
--- src/lib.rt:131:36
 below-pass-requires : tie.Need-below-pass-requires
 below-pass-requires c κs = search laws depth 9
 
--- src/lib.rt:132:30
 enum-known-r-2 : tie.Need-enum-known-r-2
 enum-known-r-2 c = search laws depth 9
 
--- src/lib.rt:133:40
 enum-told-2 : tie.Need-enum-told-2
 enum-told-2 c = search laws depth 9
 
--- src/lib.rt:133:40
 below-pass-requires-2 : tie.Need-below-pass-requires-2
 below-pass-requires-2 c κs = search laws depth 9
 
--- src/lib.rt:134:34
 enum-known-r-3 : tie.Need-enum-known-r-3
 enum-known-r-3 c = search laws depth 9
 
--- src/lib.rt:136:58
 enum-told-3 : tie.Need-enum-told-3
 enum-told-3 c = search laws depth 9
 
--- src/lib.rt:136:58
 cast-below-pass : tie.Need-cast-below-pass
 cast-below-pass c = search laws depth 9
 
--- src/lib.rt:136:54
 mul-below-pass : tie.Need-mul-below-pass
 mul-below-pass c = search laws depth 9
 
--- src/lib.rt:136:44
 add-below-pass-2 : tie.Need-add-below-pass-2
 add-below-pass-2 c = search laws depth 9
 
--- src/lib.rt:136:21
 below-pass-requires-3 : tie.Need-below-pass-requires-3
 below-pass-requires-3 c κs = search laws depth 9
 
--- src/lib.rt:124:1
 returns : tie.Need-returns
 unfolding lists-below
 returns c = search laws depth 9
 
--- src/lib.rt:124:1
 returns-2 : tie.Need-returns-2
 unfolding lists-below
 returns-2 c = search laws depth 9
 
--- src/lib.rt:124:1
 returns-3 : tie.Need-returns-3
 unfolding lists-below
 returns-3 c = search laws depth 9
 
--- src/lib.rt:124:1
 returns-4 : tie.Need-returns-4
 unfolding lists-below
 returns-4 c = search laws depth 9

@@ -7,20 +7,16 @@ use Rattle.annotation_walk.proofs.one_below.Lts as lts
 use Rattle.annotation_walk.proofs.check_references.Reads as check-references-reads
 use Rattle.annotation_walk.proofs.check_set.Reads as check-set-reads
 
--- src/lib.rt:96:9
 check-references-requires : tie.Need-check-references-requires
 check-references-requires c κs = search laws
 
--- src/lib.rt:96:9
 returns : tie.Need-returns
 unfolding oneBelow
 returns c = search laws
 
--- src/lib.rt:98:5
 check-set-requires : tie.Need-check-set-requires
 check-set-requires c κs = search laws
 
--- src/lib.rt:92:1
 returns-2 : tie.Need-returns-2
 unfolding oneBelow
 returns-2 c = search laws

@@ -5,15 +5,12 @@ use Rattle.annotation_walk.proofs.own_set.Reads as reads
 use Rattle.annotation_walk.proofs.own_set.Lts as lts
 use Rattle.annotation_walk.proofs.check_set.Reads as check-set-reads
 
--- src/lib.rt:54:9
 returns : tie.Need-returns
 returns c = search laws
 
--- src/lib.rt:56:5
 check-set-requires : tie.Need-check-set-requires
 check-set-requires c κs = search laws
 
--- src/lib.rt:50:1
 returns-2 : tie.Need-returns-2
 returns-2 c = search laws
 

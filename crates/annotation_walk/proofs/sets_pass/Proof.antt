@@ -14,47 +14,36 @@ Inv-loop s f from count order at₀ left₀ at left = Along (setFrom s f) s 4 fr
 abbrev μ-loop : tie.MeasureT-loop
 μ-loop s f from count order at₀ left₀ at left = left
 
--- src/lib.rt:67:5
 loop-holds : tie.Need-loop-holds Inv-loop μ-loop
 loop-holds c = search laws
 
--- src/lib.rt:68:29
 u32-at-requires : tie.Need-u32-at-requires Inv-loop μ-loop
 u32-at-requires c κs = search laws
 
--- src/lib.rt:68:15
 own-set-requires : tie.Need-own-set-requires Inv-loop μ-loop
 own-set-requires c κs = search laws
 
--- src/lib.rt:69:30
 enum-known-r : tie.Need-enum-known-r Inv-loop μ-loop
 enum-known-r c = search laws
 
--- src/lib.rt:70:17
 returns : tie.Need-returns Inv-loop μ-loop
 returns c = search laws
 
--- src/lib.rt:73:17
 enum-told : tie.Need-enum-told Inv-loop μ-loop
 enum-told c = search laws
 
--- src/lib.rt:73:17
 add-at : tie.Need-add-at Inv-loop μ-loop
 add-at c = search laws
 
--- src/lib.rt:76:9
 sub-left : tie.Need-sub-left Inv-loop μ-loop
 sub-left c = search laws
 
--- src/lib.rt:67:5
 loop-less : tie.Need-loop-less Inv-loop μ-loop
 loop-less c = search laws
 
--- src/lib.rt:67:5
 loop-again : tie.Need-loop-again Inv-loop μ-loop
 loop-again c = search laws
 
--- src/lib.rt:60:1
 returns-2 : tie.Need-returns-2 Inv-loop μ-loop
 returns-2 c = search laws
 

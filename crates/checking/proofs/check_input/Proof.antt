@@ -8,63 +8,48 @@ use Rattle.checking.proofs.write_report.Reads as write-report-reads
 use Rattle.file_report.proofs.input_report.Reads as input-report-reads
 use Rattle.io.proofs.read_full.Reads as read-full-reads
 
--- src/lib.rt:27:31
 slice-aggregate-read-full : tie.Need-slice-aggregate-read-full
 slice-aggregate-read-full c = search laws
 
--- src/lib.rt:27:9
 read-full-requires : tie.Need-read-full-requires
 read-full-requires c κs = search laws
 
--- src/lib.rt:29:13
 is-at-end-requires : tie.Need-is-at-end-requires
 is-at-end-requires c κs = search laws
 
--- src/lib.rt:30:13
 returns : tie.Need-returns
 returns c = search laws
 
--- src/lib.rt:34:37
 array-share-prefix-buf : tie.Need-array-share-prefix-buf
 array-share-prefix-buf c = search laws
 
--- src/lib.rt:34:37
 slice-aggregate-input-report : tie.Need-slice-aggregate-input-report
 slice-aggregate-input-report c = search laws
 
--- src/lib.rt:34:48
 slice-aggregate-input-report-2 : tie.Need-slice-aggregate-input-report-2
 slice-aggregate-input-report-2 c = search laws
 
--- src/lib.rt:34:11
 input-report-requires : tie.Need-input-report-requires
 input-report-requires c κs = search laws
 
--- src/lib.rt:35:27
 enum-known-k : tie.Need-enum-known-k
 enum-known-k c = search laws
 
--- src/lib.rt:36:32
 array-share-prefix-out : tie.Need-array-share-prefix-out
 array-share-prefix-out c = search laws
 
--- src/lib.rt:36:32
 slice-aggregate-write-report : tie.Need-slice-aggregate-write-report
 slice-aggregate-write-report c = search laws
 
--- src/lib.rt:36:13
 write-report-requires : tie.Need-write-report-requires
 write-report-requires c κs = search laws
 
--- src/lib.rt:39:37
 enum-told : tie.Need-enum-told
 enum-told c = search laws
 
--- src/lib.rt:25:1
 returns-2 : tie.Need-returns-2
 returns-2 c = search laws
 
--- src/lib.rt:25:1
 returns-3 : tie.Need-returns-3
 returns-3 c = search laws
 

@@ -15,55 +15,42 @@ Inv-loop count i₀ i = Unit {0}
 abbrev μ-loop : tie.MeasureT-loop
 μ-loop count i₀ i = count - i
 
--- src/lib.rt:64:9
 arg-count-requires : tie.Need-arg-count-requires Inv-loop μ-loop
 arg-count-requires c κs = search laws
 
--- src/lib.rt:66:45
 slice-aggregate-check-input : tie.Need-slice-aggregate-check-input Inv-loop μ-loop
 slice-aggregate-check-input c = search laws
 
--- src/lib.rt:66:13
 check-input-requires : tie.Need-check-input-requires Inv-loop μ-loop
 check-input-requires c κs = search laws
 
--- src/lib.rt:67:22
 slice-aggregate-fail : tie.Need-slice-aggregate-fail Inv-loop μ-loop
 slice-aggregate-fail c = search laws
 
--- src/lib.rt:67:13
 fail-requires : tie.Need-fail-requires Inv-loop μ-loop
 fail-requires c κs = search laws
 
--- src/lib.rt:69:9
 returns : tie.Need-returns Inv-loop μ-loop
 returns c = search laws
 
--- src/lib.rt:69:9
 returns-2 : tie.Need-returns-2 Inv-loop μ-loop
 returns-2 c = search laws
 
--- src/lib.rt:72:5
 loop-holds : tie.Need-loop-holds Inv-loop μ-loop
 loop-holds c = search laws
 
--- src/lib.rt:73:9
 check-argument-requires : tie.Need-check-argument-requires Inv-loop μ-loop
 check-argument-requires c κs = search laws
 
--- src/lib.rt:74:9
 add-i : tie.Need-add-i Inv-loop μ-loop
 add-i c = search laws
 
--- src/lib.rt:72:5
 loop-less : tie.Need-loop-less Inv-loop μ-loop
 loop-less c = search laws
 
--- src/lib.rt:72:5
 loop-again : tie.Need-loop-again Inv-loop μ-loop
 loop-again c = search laws
 
--- src/lib.rt:63:1
 returns-3 : tie.Need-returns-3 Inv-loop μ-loop
 returns-3 c = search laws
 

@@ -5,23 +5,18 @@ use Rattle.class_data.proofs.class_data_at.Reads as reads
 use Rattle.class_data.proofs.class_data_at.Lts as lts
 use Rattle.class_data.proofs.kept_at.Reads as kept-at-reads
 
--- src/lib.rt:363:11
 kept-at-requires : tie.Need-kept-at-requires
 kept-at-requires c κs = search laws depth 7
 
--- src/lib.rt:364:29
 enum-known-r : tie.Need-enum-known-r
 enum-known-r c = search laws depth 7
 
--- src/lib.rt:366:13
 enum-known-counts : tie.Need-enum-known-counts
 enum-known-counts c = search laws depth 7
 
--- src/lib.rt:360:1
 returns : tie.Need-returns
 returns c = search laws depth 7
 
--- src/lib.rt:360:1
 returns-2 : tie.Need-returns-2
 returns-2 c = search laws depth 7
 

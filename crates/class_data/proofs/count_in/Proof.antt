@@ -5,27 +5,22 @@ use Rattle.class_data.proofs.count_in.Tie as tie
 use Rattle.class_data.proofs.count_in.Reads as reads
 use Rattle.class_data.proofs.count_in.Lts as lts
 
--- src/lib.rt:367:9
 returns : tie.Need-returns
 unfolding countIn
 returns c = search laws depth 7
 
--- src/lib.rt:370:9
 returns-2 : tie.Need-returns-2
 unfolding countIn
 returns-2 c = search laws depth 7
 
--- src/lib.rt:373:9
 returns-3 : tie.Need-returns-3
 unfolding countIn
 returns-3 c = search laws depth 7
 
--- src/lib.rt:376:9
 returns-4 : tie.Need-returns-4
 unfolding countIn
 returns-4 c = search laws depth 7
 
--- src/lib.rt:363:1
 returns-5 : tie.Need-returns-5
 unfolding countIn
 returns-5 c = search laws depth 7

@@ -6,41 +6,32 @@ use Rattle.class_data.proofs.counts_at.Reads as reads
 use Rattle.class_data.proofs.counts_at.Lts as lts
 use Rattle.class_data.proofs.pair_at.Reads as pair-at-reads
 
--- src/lib.rt:276:11
 pair-at-requires : tie.Need-pair-at-requires
 pair-at-requires c κs = search laws depth 7
 
--- src/lib.rt:277:23
 enum-known-r : tie.Need-enum-known-r
 enum-known-r c = search laws depth 7
 
--- src/lib.rt:279:20
 enum-known-statics : tie.Need-enum-known-statics
 enum-known-statics c = search laws depth 7
 
--- src/lib.rt:282:20
 pair-at-requires-2 : tie.Need-pair-at-requires-2
 pair-at-requires-2 c κs = search laws depth 7
 
--- src/lib.rt:283:27
 enum-known-r-2 : tie.Need-enum-known-r-2
 enum-known-r-2 c = search laws depth 7
 
--- src/lib.rt:285:24
 enum-known-directs : tie.Need-enum-known-directs
 enum-known-directs c = search laws depth 7
 
--- src/lib.rt:273:1
 returns : tie.Need-returns
 unfolding countsAt
 returns c = search laws depth 7
 
--- src/lib.rt:273:1
 returns-2 : tie.Need-returns-2
 unfolding countsAt
 returns-2 c = search laws depth 7
 
--- src/lib.rt:273:1
 returns-3 : tie.Need-returns-3
 unfolding countsAt
 returns-3 c = search laws depth 7

@@ -7,58 +7,45 @@ use Rattle.class_data.proofs.kept_at.Lts as lts
 use Rattle.class_data.proofs.counts_at.Reads as counts-at-reads
 use Rattle.class_data.proofs.two_at.Reads as two-at-reads
 
--- src/lib.rt:315:11
 counts-at-requires : tie.Need-counts-at-requires
 counts-at-requires c κs = search laws depth 9
 
--- src/lib.rt:316:31
 enum-known-r : tie.Need-enum-known-r
 enum-known-r c = search laws depth 9
 
--- src/lib.rt:317:29
 enum-known-counts : tie.Need-enum-known-counts
 enum-known-counts c = search laws depth 9
 
--- src/lib.rt:323:19
 two-at-requires : tie.Need-two-at-requires
 two-at-requires c κs = search laws depth 9
 
--- src/lib.rt:324:36
 enum-known-r-2 : tie.Need-enum-known-r-2
 enum-known-r-2 c = search laws depth 9
 
--- src/lib.rt:326:28
 enum-known-statics : tie.Need-enum-known-statics
 enum-known-statics c = search laws depth 9
 
--- src/lib.rt:335:27
 two-at-requires-2 : tie.Need-two-at-requires-2
 two-at-requires-2 c κs = search laws depth 9
 
--- src/lib.rt:336:44
 enum-known-r-3 : tie.Need-enum-known-r-3
 enum-known-r-3 c = search laws depth 9
 
--- src/lib.rt:338:36
 enum-known-directs : tie.Need-enum-known-directs
 enum-known-directs c = search laws depth 9
 
--- src/lib.rt:312:1
 returns : tie.Need-returns
 unfolding keptAt
 returns c = search laws depth 9
 
--- src/lib.rt:312:1
 returns-2 : tie.Need-returns-2
 unfolding keptAt
 returns-2 c = search laws depth 9
 
--- src/lib.rt:312:1
 returns-3 : tie.Need-returns-3
 unfolding keptAt
 returns-3 c = search laws depth 9
 
--- src/lib.rt:312:1
 returns-4 : tie.Need-returns-4
 unfolding keptAt
 returns-4 c = search laws depth 9

@@ -5,27 +5,22 @@ use Rattle.class_data.proofs.member_in.Tie as tie
 use Rattle.class_data.proofs.member_in.Reads as reads
 use Rattle.class_data.proofs.member_in.Lts as lts
 
--- src/lib.rt:386:9
 returns : tie.Need-returns
 unfolding memberIn
 returns c = search laws depth 7
 
--- src/lib.rt:389:9
 returns-2 : tie.Need-returns-2
 unfolding memberIn
 returns-2 c = search laws depth 7
 
--- src/lib.rt:392:9
 returns-3 : tie.Need-returns-3
 unfolding memberIn
 returns-3 c = search laws depth 7
 
--- src/lib.rt:395:9
 returns-4 : tie.Need-returns-4
 unfolding memberIn
 returns-4 c = search laws depth 7
 
--- src/lib.rt:382:1
 returns-5 : tie.Need-returns-5
 unfolding memberIn
 returns-5 c = search laws depth 7

@@ -6,58 +6,45 @@ use Rattle.class_data.proofs.methods_at.Lts as lts
 use Rattle.class_data.proofs.counts_at.Reads as counts-at-reads
 use Rattle.class_data.proofs.two_at.Reads as two-at-reads
 
--- src/lib.rt:227:11
 counts-at-requires : tie.Need-counts-at-requires
 counts-at-requires c κs = search laws depth 9
 
--- src/lib.rt:228:31
 enum-known-r : tie.Need-enum-known-r
 enum-known-r c = search laws depth 9
 
--- src/lib.rt:229:29
 enum-known-counts : tie.Need-enum-known-counts
 enum-known-counts c = search laws depth 9
 
--- src/lib.rt:235:19
 two-at-requires : tie.Need-two-at-requires
 two-at-requires c κs = search laws depth 9
 
--- src/lib.rt:236:36
 enum-known-r-2 : tie.Need-enum-known-r-2
 enum-known-r-2 c = search laws depth 9
 
--- src/lib.rt:240:27
 enum-known-middle : tie.Need-enum-known-middle
 enum-known-middle c = search laws depth 9
 
--- src/lib.rt:247:27
 two-at-requires-2 : tie.Need-two-at-requires-2
 two-at-requires-2 c κs = search laws depth 9
 
--- src/lib.rt:248:44
 enum-known-r-3 : tie.Need-enum-known-r-3
 enum-known-r-3 c = search laws depth 9
 
--- src/lib.rt:253:49
 enum-told : tie.Need-enum-told
 enum-told c = search laws depth 9
 
--- src/lib.rt:224:1
 returns : tie.Need-returns
 unfolding methodsStaged
 returns c = search laws depth 9
 
--- src/lib.rt:224:1
 returns-2 : tie.Need-returns-2
 unfolding methodsStaged
 returns-2 c = search laws depth 9
 
--- src/lib.rt:224:1
 returns-3 : tie.Need-returns-3
 unfolding methodsStaged
 returns-3 c = search laws depth 9
 
--- src/lib.rt:224:1
 returns-4 : tie.Need-returns-4
 unfolding methodsStaged
 returns-4 c = search laws depth 9

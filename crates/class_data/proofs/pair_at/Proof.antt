@@ -6,41 +6,32 @@ use Rattle.class_data.proofs.pair_at.Reads as reads
 use Rattle.class_data.proofs.pair_at.Lts as lts
 use Rattle.leb128.proofs.uleb.Reads as uleb-reads
 
--- src/lib.rt:253:11
 uleb-requires : tie.Need-uleb-requires
 uleb-requires c κs = search laws depth 7
 
--- src/lib.rt:254:22
 enum-known-r : tie.Need-enum-known-r
 enum-known-r c = search laws depth 7
 
--- src/lib.rt:256:20
 enum-known-first : tie.Need-enum-known-first
 enum-known-first c = search laws depth 7
 
--- src/lib.rt:258:20
 uleb-requires-2 : tie.Need-uleb-requires-2
 uleb-requires-2 c κs = search laws depth 7
 
--- src/lib.rt:259:26
 enum-known-r-2 : tie.Need-enum-known-r-2
 enum-known-r-2 c = search laws depth 7
 
--- src/lib.rt:261:24
 enum-known-second : tie.Need-enum-known-second
 enum-known-second c = search laws depth 7
 
--- src/lib.rt:250:1
 returns : tie.Need-returns
 unfolding pairAt
 returns c = search laws depth 7
 
--- src/lib.rt:250:1
 returns-2 : tie.Need-returns-2
 unfolding pairAt
 returns-2 c = search laws depth 7
 
--- src/lib.rt:250:1
 returns-3 : tie.Need-returns-3
 unfolding pairAt
 returns-3 c = search laws depth 7

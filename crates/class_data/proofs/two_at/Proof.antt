@@ -6,41 +6,32 @@ use Rattle.class_data.proofs.two_at.Reads as reads
 use Rattle.class_data.proofs.two_at.Lts as lts
 use Rattle.class_members.proofs.members_at.Reads as members-at-reads
 
--- src/lib.rt:230:11
 members-at-requires : tie.Need-members-at-requires
 members-at-requires c κs = search laws depth 7
 
--- src/lib.rt:231:30
 enum-known-r : tie.Need-enum-known-r
 enum-known-r c = search laws depth 7
 
--- src/lib.rt:233:21
 enum-known-first : tie.Need-enum-known-first
 enum-known-first c = search laws depth 7
 
--- src/lib.rt:235:20
 members-at-requires-2 : tie.Need-members-at-requires-2
 members-at-requires-2 c κs = search laws depth 7
 
--- src/lib.rt:236:34
 enum-known-r-2 : tie.Need-enum-known-r-2
 enum-known-r-2 c = search laws depth 7
 
--- src/lib.rt:238:25
 enum-known-second : tie.Need-enum-known-second
 enum-known-second c = search laws depth 7
 
--- src/lib.rt:219:1
 returns : tie.Need-returns
 unfolding keptTwo
 returns c = search laws depth 7
 
--- src/lib.rt:219:1
 returns-2 : tie.Need-returns-2
 unfolding keptTwo
 returns-2 c = search laws depth 7
 
--- src/lib.rt:219:1
 returns-3 : tie.Need-returns-3
 unfolding keptTwo
 returns-3 c = search laws depth 7

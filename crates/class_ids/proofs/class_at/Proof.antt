@@ -6,23 +6,18 @@ use Rattle.class_ids.proofs.class_at.Lts as lts
 use Rattle.class_ids.proofs.first_of.Reads as first-of-reads
 use Rattle.class_ids.proofs.words_at.Reads as words-at-reads
 
--- src/lib.rt:138:27
 mul-first-of : tie.Need-mul-first-of
 mul-first-of c = search laws
 
--- src/lib.rt:138:9
 add-first-of : tie.Need-add-first-of
 add-first-of c = search laws
 
--- src/lib.rt:139:9
 words-at-requires : tie.Need-words-at-requires
 words-at-requires c κs = search laws
 
--- src/lib.rt:135:5
 first-of-requires : tie.Need-first-of-requires
 first-of-requires c κs = search laws
 
--- src/lib.rt:131:1
 returns : tie.Need-returns
 returns c = search laws
 

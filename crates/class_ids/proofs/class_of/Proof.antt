@@ -5,15 +5,12 @@ use Rattle.class_ids.proofs.class_of.Reads as reads
 use Rattle.class_ids.proofs.class_of.Lts as lts
 use Rattle.class_ids.proofs.maybe_of.Reads as maybe-of-reads
 
--- src/lib.rt:86:21
 maybe-of-requires : tie.Need-maybe-of-requires
 maybe-of-requires c κs = search laws
 
--- src/lib.rt:88:17
 maybe-of-requires-2 : tie.Need-maybe-of-requires-2
 maybe-of-requires-2 c κs = search laws
 
--- src/lib.rt:80:1
 returns : tie.Need-returns
 returns c = search laws
 

@@ -7,25 +7,20 @@ use Rattle.class_ids.proofs.first_of.Lts as lts
 use Rattle.class_ids.proofs.is_index_or_none.Reads as is-index-or-none-reads
 use Rattle.class_ids.proofs.middle_of.Reads as middle-of-reads
 
--- src/lib.rt:129:9
 returns : tie.Need-returns
 unfolding firstOf
 returns c = search laws
 
--- src/lib.rt:131:8
 is-index-or-none-requires : tie.Need-is-index-or-none-requires
 is-index-or-none-requires c κs = search laws
 
--- src/lib.rt:132:9
 middle-of-requires : tie.Need-middle-of-requires
 middle-of-requires c κs = search laws
 
--- src/lib.rt:132:9
 returns-2 : tie.Need-returns-2
 unfolding firstOf
 returns-2 c = search laws
 
--- src/lib.rt:125:1
 returns-3 : tie.Need-returns-3
 unfolding firstOf
 returns-3 c = search laws

@@ -4,11 +4,9 @@ use Rattle.class_ids.proofs.is_index_or_none.Tie as tie
 use Rattle.class_ids.proofs.is_index_or_none.Reads as reads
 use Rattle.class_ids.proofs.is_index_or_none.Lts as lts
 
--- src/lib.rt:49:9
 returns : tie.Need-returns
 returns c = search laws
 
--- src/lib.rt:45:1
 returns-2 : tie.Need-returns-2
 returns-2 c = search laws
 

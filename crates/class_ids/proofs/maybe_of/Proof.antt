@@ -4,11 +4,9 @@ use Rattle.class_ids.proofs.maybe_of.Tie as tie
 use Rattle.class_ids.proofs.maybe_of.Reads as reads
 use Rattle.class_ids.proofs.maybe_of.Lts as lts
 
--- src/lib.rt:58:9
 returns : tie.Need-returns
 returns c = search laws
 
--- src/lib.rt:54:1
 returns-2 : tie.Need-returns-2
 returns-2 c = search laws
 

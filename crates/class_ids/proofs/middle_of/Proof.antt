@@ -8,33 +8,26 @@ use Rattle.class_ids.proofs.is_index_or_none.Reads as is-index-or-none-
 use Rattle.class_ids.proofs.places_of.Reads as places-of-reads
 use Rattle.frame.proofs.is_allowed_or_absent.Reads as is-allowed-or-absent-reads
 
--- src/lib.rt:115:56
 cast-is-allowed-or-absent : tie.Need-cast-is-allowed-or-absent
 cast-is-allowed-or-absent c = search laws
 
--- src/lib.rt:115:8
 is-allowed-or-absent-requires : tie.Need-is-allowed-or-absent-requires
 is-allowed-or-absent-requires c κs = search laws
 
--- src/lib.rt:116:12
 is-index-or-none-requires : tie.Need-is-index-or-none-requires
 is-index-or-none-requires c κs = search laws
 
--- src/lib.rt:117:13
 places-of-requires : tie.Need-places-of-requires
 places-of-requires c κs = search laws
 
--- src/lib.rt:117:13
 returns : tie.Need-returns
 unfolding middleOf
 returns c = search laws
 
--- src/lib.rt:119:9
 returns-2 : tie.Need-returns-2
 unfolding middleOf
 returns-2 c = search laws
 
--- src/lib.rt:112:1
 returns-3 : tie.Need-returns-3
 unfolding middleOf
 returns-3 c = search laws

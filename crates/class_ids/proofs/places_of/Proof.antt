@@ -7,50 +7,39 @@ use Rattle.class_ids.proofs.places_of.Lts as lts
 use Rattle.class_ids.proofs.class_of.Reads as class-of-reads
 use Rattle.frame.proofs.is_allowed_or_absent.Reads as is-allowed-or-absent-reads
 
--- src/lib.rt:99:54
 cast-is-allowed-or-absent : tie.Need-cast-is-allowed-or-absent
 cast-is-allowed-or-absent c = search laws depth 7
 
--- src/lib.rt:99:8
 is-allowed-or-absent-requires : tie.Need-is-allowed-or-absent-requires
 is-allowed-or-absent-requires c κs = search laws depth 7
 
--- src/lib.rt:100:59
 cast-is-allowed-or-absent-2 : tie.Need-cast-is-allowed-or-absent-2
 cast-is-allowed-or-absent-2 c = search laws depth 7
 
--- src/lib.rt:100:12
 is-allowed-or-absent-requires-2 : tie.Need-is-allowed-or-absent-requires-2
 is-allowed-or-absent-requires-2 c κs = search laws depth 7
 
--- src/lib.rt:101:63
 cast-is-allowed-or-absent-3 : tie.Need-cast-is-allowed-or-absent-3
 cast-is-allowed-or-absent-3 c = search laws depth 7
 
--- src/lib.rt:101:16
 is-allowed-or-absent-requires-3 : tie.Need-is-allowed-or-absent-requires-3
 is-allowed-or-absent-requires-3 c κs = search laws depth 7
 
--- src/lib.rt:102:41
 class-of-requires : tie.Need-class-of-requires
 class-of-requires c κs = search laws depth 7
 
--- src/lib.rt:102:17
 returns : tie.Need-returns
 unfolding placesOf
 returns c = search laws depth 7
 
--- src/lib.rt:104:13
 returns-2 : tie.Need-returns-2
 unfolding placesOf
 returns-2 c = search laws depth 7
 
--- src/lib.rt:106:9
 returns-3 : tie.Need-returns-3
 unfolding placesOf
 returns-3 c = search laws depth 7
 
--- src/lib.rt:96:1
 returns-4 : tie.Need-returns-4
 unfolding placesOf
 returns-4 c = search laws depth 7

@@ -6,16 +6,13 @@ use Rattle.class_members.proofs.code_at.Reads as reads
 use Rattle.class_members.proofs.code_at.Lts as lts
 use Rattle.class_members.proofs.offset_at.Reads as offset-at-reads
 
--- src/lib.rt:113:9
 offset-at-requires : tie.Need-offset-at-requires
 offset-at-requires c κs = search laws depth 7
 
--- src/lib.rt:113:9
 returns : tie.Need-returns
 unfolding codeAt
 returns c = search laws depth 7
 
--- src/lib.rt:109:1
 returns-2 : tie.Need-returns-2
 unfolding codeAt
 returns-2 c = search laws depth 7

@@ -5,12 +5,10 @@ use Rattle.class_members.proofs.is_apart.Tie as tie
 use Rattle.class_members.proofs.is_apart.Reads as reads
 use Rattle.class_members.proofs.is_apart.Lts as lts
 
--- src/lib.rt:85:9
 returns : tie.Need-returns
 unfolding apart
 returns c = search laws
 
--- src/lib.rt:81:1
 returns-2 : tie.Need-returns-2
 unfolding apart
 returns-2 c = search laws

@@ -8,58 +8,45 @@ use Rattle.class_members.proofs.is_apart.Reads as is-apart-reads
 use Rattle.class_members.proofs.rest_at.Reads as rest-at-reads
 use Rattle.leb128.proofs.uleb.Reads as uleb-reads
 
--- src/lib.rt:148:11
 uleb-requires : tie.Need-uleb-requires
 uleb-requires c κs = search laws depth 7
 
--- src/lib.rt:149:22
 enum-known-r : tie.Need-enum-known-r
 enum-known-r c = search laws depth 7
 
--- src/lib.rt:150:20
 enum-known-value : tie.Need-enum-known-value
 enum-known-value c = search laws depth 7
 
--- src/lib.rt:151:16
 is-apart-requires : tie.Need-is-apart-requires
 is-apart-requires c κs = search laws depth 7
 
--- src/lib.rt:152:43
 cast-index : tie.Need-cast-index
 cast-index c = search laws depth 7
 
--- src/lib.rt:152:29
 add-index : tie.Need-add-index
 add-index c = search laws depth 7
 
--- src/lib.rt:153:28
 cast-if2 : tie.Need-cast-if2
 cast-if2 c = search laws depth 7
 
--- src/lib.rt:154:48
 cast-rest-at : tie.Need-cast-rest-at
 cast-rest-at c = search laws depth 7
 
--- src/lib.rt:154:21
 rest-at-requires : tie.Need-rest-at-requires
 rest-at-requires c κs = search laws depth 7
 
--- src/lib.rt:154:21
 returns : tie.Need-returns
 unfolding memberAt
 returns c = search laws depth 7
 
--- src/lib.rt:156:17
 returns-2 : tie.Need-returns-2
 unfolding memberAt
 returns-2 c = search laws depth 7
 
--- src/lib.rt:138:1
 returns-3 : tie.Need-returns-3
 unfolding memberAt
 returns-3 c = search laws depth 7
 
--- src/lib.rt:138:1
 returns-4 : tie.Need-returns-4
 unfolding memberAt
 returns-4 c = search laws depth 7

@@ -12,55 +12,42 @@ Inv-loop s j item from count k p₀ last₀ later₀ index₀ flags₀ code₀ i
 abbrev μ-loop : tie.MeasureT-loop
 μ-loop s j item from count k p₀ last₀ later₀ index₀ flags₀ code₀ i₀ left₀ p last later index flags code i left = left
 
--- src/lib.rt:142:5
 loop-holds : tie.Need-loop-holds Inv-loop μ-loop
 loop-holds c = search laws
 
--- src/lib.rt:143:15
 member-found-requires : tie.Need-member-found-requires Inv-loop μ-loop
 member-found-requires c κs = search laws
 
--- src/lib.rt:144:34
 enum-known-r : tie.Need-enum-known-r Inv-loop μ-loop
 enum-known-r c = search laws
 
--- src/lib.rt:145:17
 returns : tie.Need-returns Inv-loop μ-loop
 returns c = search laws
 
--- src/lib.rt:147:32
 enum-known-member : tie.Need-enum-known-member Inv-loop μ-loop
 enum-known-member c = search laws
 
--- src/lib.rt:148:17
 newer-requires : tie.Need-newer-requires Inv-loop μ-loop
 newer-requires c κs = search laws
 
--- src/lib.rt:149:17
 newer-requires-2 : tie.Need-newer-requires-2 Inv-loop μ-loop
 newer-requires-2 c κs = search laws
 
--- src/lib.rt:150:17
 newer-requires-3 : tie.Need-newer-requires-3 Inv-loop μ-loop
 newer-requires-3 c κs = search laws
 
--- src/lib.rt:156:9
 add-i : tie.Need-add-i Inv-loop μ-loop
 add-i c = search laws
 
--- src/lib.rt:157:9
 sub-left : tie.Need-sub-left Inv-loop μ-loop
 sub-left c = search laws
 
--- src/lib.rt:142:5
 loop-less : tie.Need-loop-less Inv-loop μ-loop
 loop-less c = search laws
 
--- src/lib.rt:142:5
 loop-again : tie.Need-loop-again Inv-loop μ-loop
 loop-again c = search laws
 
--- src/lib.rt:131:1
 returns-2 : tie.Need-returns-2 Inv-loop μ-loop
 returns-2 c = search laws
 

@@ -7,37 +7,29 @@ use Rattle.class_members.proofs.offset_at.Lts as lts
 use Rattle.frame.proofs.is_allowed_or_absent.Reads as is-allowed-or-absent-reads
 use Rattle.leb128.proofs.uleb.Reads as uleb-reads
 
--- src/lib.rt:94:11
 uleb-requires : tie.Need-uleb-requires
 uleb-requires c κs = search laws depth 7
 
--- src/lib.rt:95:22
 enum-known-r : tie.Need-enum-known-r
 enum-known-r c = search laws depth 7
 
--- src/lib.rt:96:20
 enum-known-value : tie.Need-enum-known-value
 enum-known-value c = search laws depth 7
 
--- src/lib.rt:97:66
 cast-is-allowed-or-absent : tie.Need-cast-is-allowed-or-absent
 cast-is-allowed-or-absent c = search laws depth 7
 
--- src/lib.rt:97:16
 is-allowed-or-absent-requires : tie.Need-is-allowed-or-absent-requires
 is-allowed-or-absent-requires c κs = search laws depth 7
 
--- src/lib.rt:98:17
 returns : tie.Need-returns
 unfolding offsetAt
 returns c = search laws depth 7
 
--- src/lib.rt:91:1
 returns-2 : tie.Need-returns-2
 unfolding offsetAt
 returns-2 c = search laws depth 7
 
--- src/lib.rt:91:1
 returns-3 : tie.Need-returns-3
 unfolding offsetAt
 returns-3 c = search laws depth 7

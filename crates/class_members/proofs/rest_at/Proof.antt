@@ -7,41 +7,32 @@ use Rattle.class_members.proofs.rest_at.Lts as lts
 use Rattle.class_members.proofs.code_at.Reads as code-at-reads
 use Rattle.leb128.proofs.uleb.Reads as uleb-reads
 
--- src/lib.rt:122:11
 uleb-requires : tie.Need-uleb-requires
 uleb-requires c κs = search laws depth 7
 
--- src/lib.rt:123:22
 enum-known-r : tie.Need-enum-known-r
 enum-known-r c = search laws depth 7
 
--- src/lib.rt:124:27
 enum-known-flags : tie.Need-enum-known-flags
 enum-known-flags c = search laws depth 7
 
--- src/lib.rt:124:50
 code-at-requires : tie.Need-code-at-requires
 code-at-requires c κs = search laws depth 7
 
--- src/lib.rt:125:26
 enum-known-r-2 : tie.Need-enum-known-r-2
 enum-known-r-2 c = search laws depth 7
 
--- src/lib.rt:127:24
 enum-known-code : tie.Need-enum-known-code
 enum-known-code c = search laws depth 7
 
--- src/lib.rt:119:1
 returns : tie.Need-returns
 unfolding restAt
 returns c = search laws depth 7
 
--- src/lib.rt:119:1
 returns-2 : tie.Need-returns-2
 unfolding restAt
 returns-2 c = search laws depth 7
 
--- src/lib.rt:119:1
 returns-3 : tie.Need-returns-3
 unfolding restAt
 returns-3 c = search laws depth 7

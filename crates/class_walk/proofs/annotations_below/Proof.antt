@@ -8,24 +8,19 @@ use Rattle.annotation_walk.proofs.check_directory.Reads as check-directory-read
 use Rattle.header.proofs.frame_of.Reads as frame-of-reads
 use Rattle.header.proofs.section_of.Reads as section-of-reads
 
--- src/lib.rt:145:9
 returns : tie.Need-returns
 unfolding annotationsAt
 returns c = search laws depth 7
 
--- src/lib.rt:148:9
 section-of-requires : tie.Need-section-of-requires
 section-of-requires c κs = search laws depth 7
 
--- src/lib.rt:149:9
 frame-of-requires : tie.Need-frame-of-requires
 frame-of-requires c κs = search laws depth 7
 
--- src/lib.rt:147:5
 check-directory-requires : tie.Need-check-directory-requires
 check-directory-requires c κs = search laws depth 7
 
--- src/lib.rt:141:1
 returns-2 : tie.Need-returns-2
 unfolding annotationsAt
 returns-2 c = search laws depth 7

@@ -9,62 +9,48 @@ use Rattle.class_walk.proofs.check_types.Reads as check-types-reads
 use Rattle.class_walk.proofs.data_below.Reads as data-below-reads
 use Rattle.class_walk.proofs.values_below.Reads as values-below-reads
 
--- src/lib.rt:181:11
 check-types-requires : tie.Need-check-types-requires
 check-types-requires c κs = search laws depth 9
 
--- src/lib.rt:182:26
 enum-known-r : tie.Need-enum-known-r
 enum-known-r c = search laws depth 9
 
--- src/lib.rt:183:36
 enum-told : tie.Need-enum-told
 enum-told c = search laws depth 9
 
--- src/lib.rt:183:36
 annotations-below-requires : tie.Need-annotations-below-requires
 annotations-below-requires c κs = search laws depth 9
 
--- src/lib.rt:184:30
 enum-known-r-2 : tie.Need-enum-known-r-2
 enum-known-r-2 c = search laws depth 9
 
--- src/lib.rt:185:40
 enum-told-2 : tie.Need-enum-told-2
 enum-told-2 c = search laws depth 9
 
--- src/lib.rt:185:40
 data-below-requires : tie.Need-data-below-requires
 data-below-requires c κs = search laws depth 9
 
--- src/lib.rt:186:34
 enum-known-r-3 : tie.Need-enum-known-r-3
 enum-known-r-3 c = search laws depth 9
 
--- src/lib.rt:187:38
 enum-told-3 : tie.Need-enum-told-3
 enum-told-3 c = search laws depth 9
 
--- src/lib.rt:187:38
 values-below-requires : tie.Need-values-below-requires
 values-below-requires c κs = search laws depth 9
 
--- src/lib.rt:178:1
 returns : tie.Need-returns
 unfolding belowPass
 returns c = search laws depth 9
 
--- src/lib.rt:178:1
 returns-2 : tie.Need-returns-2
 unfolding belowPass
 returns-2 c = search laws depth 9
 
--- src/lib.rt:178:1
 returns-3 : tie.Need-returns-3
 unfolding belowPass
 returns-3 c = search laws depth 9
 
--- src/lib.rt:178:1
 returns-4 : tie.Need-returns-4
 unfolding belowPass
 returns-4 c = search laws depth 9

@@ -6,41 +6,32 @@ use Rattle.class_walk.proofs.both_pass.Reads as reads
 use Rattle.class_walk.proofs.both_pass.Lts as lts
 use Rattle.class_walk.proofs.methods_pass.Reads as methods-pass-reads
 
--- src/lib.rt:112:11
 methods-pass-requires : tie.Need-methods-pass-requires
 methods-pass-requires c κs = search laws depth 7
 
--- src/lib.rt:113:25
 enum-known-r : tie.Need-enum-known-r
 enum-known-r c = search laws depth 7
 
--- src/lib.rt:114:20
 enum-known-middle : tie.Need-enum-known-middle
 enum-known-middle c = search laws depth 7
 
--- src/lib.rt:114:37
 methods-pass-requires-2 : tie.Need-methods-pass-requires-2
 methods-pass-requires-2 c κs = search laws depth 7
 
--- src/lib.rt:115:29
 enum-known-r-2 : tie.Need-enum-known-r-2
 enum-known-r-2 c = search laws depth 7
 
--- src/lib.rt:116:30
 enum-told : tie.Need-enum-told
 enum-told c = search laws depth 7
 
--- src/lib.rt:109:1
 returns : tie.Need-returns
 unfolding bothPass
 returns c = search laws depth 7
 
--- src/lib.rt:109:1
 returns-2 : tie.Need-returns-2
 unfolding bothPass
 returns-2 c = search laws depth 7
 
--- src/lib.rt:109:1
 returns-3 : tie.Need-returns-3
 unfolding bothPass
 returns-3 c = search laws depth 7

@@ -6,27 +6,21 @@ use Rattle.class_walk.proofs.check_body.Lts as lts
 use Rattle.class_walk.proofs.debug_below.Reads as debug-below-reads
 use Rattle.code_item.proofs.code_at.Reads as code-at-reads
 
--- src/lib.rt:51:11
 code-at-requires : tie.Need-code-at-requires
 code-at-requires c κs = search laws depth 7
 
--- src/lib.rt:52:29
 enum-known-r : tie.Need-enum-known-r
 enum-known-r c = search laws depth 7
 
--- src/lib.rt:53:25
 enum-known-o : tie.Need-enum-known-o
 enum-known-o c = search laws depth 7
 
--- src/lib.rt:55:13
 debug-below-requires : tie.Need-debug-below-requires
 debug-below-requires c κs = search laws depth 7
 
--- src/lib.rt:48:1
 returns : tie.Need-returns
 returns c = search laws depth 7
 
--- src/lib.rt:48:1
 returns-2 : tie.Need-returns-2
 returns-2 c = search laws depth 7
 

@@ -7,31 +7,24 @@ use Rattle.class_ids.proofs.class_at.Reads as class-at-reads
 use Rattle.class_walk.proofs.below_pass.Reads as below-pass-reads
 use Rattle.header.proofs.frame_of.Reads as frame-of-reads
 
--- src/lib.rt:198:34
 frame-of-requires : tie.Need-frame-of-requires
 frame-of-requires c κs = search laws depth 7
 
--- src/lib.rt:198:11
 class-at-requires : tie.Need-class-at-requires
 class-at-requires c κs = search laws depth 7
 
--- src/lib.rt:199:30
 enum-known-r : tie.Need-enum-known-r
 enum-known-r c = search laws depth 7
 
--- src/lib.rt:200:26
 enum-known-c : tie.Need-enum-known-c
 enum-known-c c = search laws depth 7
 
--- src/lib.rt:200:32
 below-pass-requires : tie.Need-below-pass-requires
 below-pass-requires c κs = search laws depth 7
 
--- src/lib.rt:194:1
 returns : tie.Need-returns
 returns c = search laws depth 7
 
--- src/lib.rt:194:1
 returns-2 : tie.Need-returns-2
 returns-2 c = search laws depth 7
 

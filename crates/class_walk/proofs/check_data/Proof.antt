@@ -6,27 +6,21 @@ use Rattle.class_walk.proofs.check_data.Lts as lts
 use Rattle.class_data.proofs.methods_at.Reads as methods-at-reads
 use Rattle.class_walk.proofs.both_pass.Reads as both-pass-reads
 
--- src/lib.rt:125:11
 methods-at-requires : tie.Need-methods-at-requires
 methods-at-requires c κs = search laws depth 7
 
--- src/lib.rt:126:32
 enum-known-r : tie.Need-enum-known-r
 enum-known-r c = search laws depth 7
 
--- src/lib.rt:127:28
 enum-known-m : tie.Need-enum-known-m
 enum-known-m c = search laws depth 7
 
--- src/lib.rt:127:34
 both-pass-requires : tie.Need-both-pass-requires
 both-pass-requires c κs = search laws depth 7
 
--- src/lib.rt:122:1
 returns : tie.Need-returns
 returns c = search laws depth 7
 
--- src/lib.rt:122:1
 returns-2 : tie.Need-returns-2
 returns-2 c = search laws depth 7
 

@@ -5,23 +5,18 @@ use Rattle.class_walk.proofs.check_types.Reads as reads
 use Rattle.class_walk.proofs.check_types.Lts as lts
 use Rattle.table_readers.proofs.list_count.Reads as list-count-reads
 
--- src/lib.rt:135:11
 list-count-requires : tie.Need-list-count-requires
 list-count-requires c κs = search laws
 
--- src/lib.rt:136:30
 enum-known-r : tie.Need-enum-known-r
 enum-known-r c = search laws
 
--- src/lib.rt:137:32
 enum-told : tie.Need-enum-told
 enum-told c = search laws
 
--- src/lib.rt:132:1
 returns : tie.Need-returns
 returns c = search laws
 
--- src/lib.rt:132:1
 returns-2 : tie.Need-returns-2
 returns-2 c = search laws
 

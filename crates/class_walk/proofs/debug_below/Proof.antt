@@ -5,27 +5,21 @@ use Rattle.class_walk.proofs.debug_below.Reads as reads
 use Rattle.class_walk.proofs.debug_below.Lts as lts
 use Rattle.debug_info.proofs.debug_at.Reads as debug-at-reads
 
--- src/lib.rt:34:9
 returns : tie.Need-returns
 returns c = search laws depth 7
 
--- src/lib.rt:36:11
 debug-at-requires : tie.Need-debug-at-requires
 debug-at-requires c κs = search laws depth 7
 
--- src/lib.rt:37:30
 enum-known-r : tie.Need-enum-known-r
 enum-known-r c = search laws depth 7
 
--- src/lib.rt:43:14
 enum-told : tie.Need-enum-told
 enum-told c = search laws depth 7
 
--- src/lib.rt:30:1
 returns-2 : tie.Need-returns-2
 returns-2 c = search laws depth 7
 
--- src/lib.rt:30:1
 returns-3 : tie.Need-returns-3
 returns-3 c = search laws depth 7
 

@@ -5,15 +5,12 @@ use Rattle.class_walk.proofs.method_below.Reads as reads
 use Rattle.class_walk.proofs.method_below.Lts as lts
 use Rattle.class_walk.proofs.check_body.Reads as check-body-reads
 
--- src/lib.rt:65:9
 returns : tie.Need-returns
 returns c = search laws depth 7
 
--- src/lib.rt:67:5
 check-body-requires : tie.Need-check-body-requires
 check-body-requires c κs = search laws depth 7
 
--- src/lib.rt:61:1
 returns-2 : tie.Need-returns-2
 returns-2 c = search laws depth 7
 

@@ -12,55 +12,42 @@ Inv-loop s f item from count judge p₀ last₀ later₀ left₀ p last later le
 abbrev μ-loop : tie.MeasureT-loop
 μ-loop s f item from count judge p₀ last₀ later₀ left₀ p last later left = left
 
--- src/lib.rt:87:5
 loop-holds : tie.Need-loop-holds Inv-loop μ-loop
 loop-holds c = search laws
 
--- src/lib.rt:88:15
 member-found-requires : tie.Need-member-found-requires Inv-loop μ-loop
 member-found-requires c κs = search laws
 
--- src/lib.rt:89:34
 enum-known-r : tie.Need-enum-known-r Inv-loop μ-loop
 enum-known-r c = search laws
 
--- src/lib.rt:90:17
 returns : tie.Need-returns Inv-loop μ-loop
 returns c = search laws
 
--- src/lib.rt:92:32
 enum-known-member : tie.Need-enum-known-member Inv-loop μ-loop
 enum-known-member c = search laws
 
--- src/lib.rt:92:56
 method-below-requires : tie.Need-method-below-requires Inv-loop μ-loop
 method-below-requires c κs = search laws
 
--- src/lib.rt:93:34
 enum-known-r-2 : tie.Need-enum-known-r-2 Inv-loop μ-loop
 enum-known-r-2 c = search laws
 
--- src/lib.rt:94:21
 returns-2 : tie.Need-returns-2 Inv-loop μ-loop
 returns-2 c = search laws
 
--- src/lib.rt:97:21
 enum-told : tie.Need-enum-told Inv-loop μ-loop
 enum-told c = search laws
 
--- src/lib.rt:103:9
 sub-left : tie.Need-sub-left Inv-loop μ-loop
 sub-left c = search laws
 
--- src/lib.rt:87:5
 loop-less : tie.Need-loop-less Inv-loop μ-loop
 loop-less c = search laws
 
--- src/lib.rt:87:5
 loop-again : tie.Need-loop-again Inv-loop μ-loop
 loop-again c = search laws
 
--- src/lib.rt:71:1
 returns-3 : tie.Need-returns-3 Inv-loop μ-loop
 returns-3 c = search laws
 

@@ -9,41 +9,32 @@ use Rattle.value_heads.proofs.walk_of.Reads as walk-of-reads
 use Rattle.header.proofs.frame_of.Reads as frame-of-reads
 use Rattle.header.proofs.section_of.Reads as section-of-reads
 
--- src/lib.rt:167:9
 returns : tie.Need-returns
 unfolding staticsAt
 returns c = search laws depth 8
 
--- src/lib.rt:170:39
 frame-of-requires : tie.Need-frame-of-requires
 frame-of-requires c κs = search laws depth 8
 
--- src/lib.rt:170:9
 walk-of-requires : tie.Need-walk-of-requires
 walk-of-requires c κs = search laws depth 8
 
--- src/lib.rt:171:36
 section-of-requires : tie.Need-section-of-requires
 section-of-requires c κs = search laws depth 8
 
--- src/lib.rt:171:11
 top-array-requires : tie.Need-top-array-requires
 top-array-requires c κs = search laws depth 8
 
--- src/lib.rt:172:23
 enum-known-r : tie.Need-enum-known-r
 enum-known-r c = search laws depth 8
 
--- src/lib.rt:173:26
 enum-told : tie.Need-enum-told
 enum-told c = search laws depth 8
 
--- src/lib.rt:163:1
 returns-2 : tie.Need-returns-2
 unfolding staticsAt
 returns-2 c = search laws depth 8
 
--- src/lib.rt:163:1
 returns-3 : tie.Need-returns-3
 unfolding staticsAt
 returns-3 c = search laws depth 8

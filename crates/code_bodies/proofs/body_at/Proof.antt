@@ -6,55 +6,42 @@ use Rattle.code_bodies.proofs.body_at.Lts as lts
 use Rattle.code_heads.proofs.body_size.Reads as body-size-reads
 use Rattle.code_bodies.proofs.parts_at.Reads as parts-at-reads
 
--- src/bodies.rt:403:9
 body-size-requires : tie.Need-body-size-requires
 body-size-requires c κs = search laws
 
--- src/bodies.rt:404:21
 cast-tries : tie.Need-cast-tries
 cast-tries c = search laws
 
--- src/bodies.rt:404:17
 mul-tries : tie.Need-mul-tries
 mul-tries c = search laws
 
--- src/bodies.rt:406:9
 returns : tie.Need-returns
 returns c = search laws
 
--- src/bodies.rt:411:8
 sub-if2 : tie.Need-sub-if2
 sub-if2 c = search laws
 
--- src/bodies.rt:412:9
 returns-2 : tie.Need-returns-2
 returns-2 c = search laws
 
--- src/bodies.rt:417:8
 sub-if3 : tie.Need-sub-if3
 sub-if3 c = search laws
 
--- src/bodies.rt:417:8
 sub-if3-2 : tie.Need-sub-if3-2
 sub-if3-2 c = search laws
 
--- src/bodies.rt:418:9
 returns-3 : tie.Need-returns-3
 returns-3 c = search laws
 
--- src/bodies.rt:423:16
 add-from : tie.Need-add-from
 add-from c = search laws
 
--- src/bodies.rt:428:15
 add-t13 : tie.Need-add-t13
 add-t13 c = search laws
 
--- src/bodies.rt:430:5
 parts-at-requires : tie.Need-parts-at-requires
 parts-at-requires c κs = search laws
 
--- src/bodies.rt:399:1
 returns-4 : tie.Need-returns-4
 returns-4 c = search laws
 

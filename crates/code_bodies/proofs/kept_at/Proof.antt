@@ -6,27 +6,21 @@ use Rattle.code_bodies.proofs.kept_at.Lts as lts
 use Rattle.code_bodies.proofs.body_at.Reads as body-at-reads
 use Rattle.code_heads.proofs.head_at.Reads as head-at-reads
 
--- src/bodies.rt:437:11
 head-at-requires : tie.Need-head-at-requires
 head-at-requires c κs = search laws depth 7
 
--- src/bodies.rt:438:29
 enum-known-r : tie.Need-enum-known-r
 enum-known-r c = search laws depth 7
 
--- src/bodies.rt:439:25
 enum-known-head : tie.Need-enum-known-head
 enum-known-head c = search laws depth 7
 
--- src/bodies.rt:439:34
 body-at-requires : tie.Need-body-at-requires
 body-at-requires c κs = search laws depth 7
 
--- src/bodies.rt:434:1
 returns : tie.Need-returns
 returns c = search laws depth 7
 
--- src/bodies.rt:434:1
 returns-2 : tie.Need-returns-2
 returns-2 c = search laws depth 7
 

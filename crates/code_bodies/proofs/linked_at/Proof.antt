@@ -7,41 +7,32 @@ use Rattle.code_bodies.proofs.linked_at.Lts as lts
 use Rattle.code_bodies.proofs.links_at.Reads as links-at-reads
 use Rattle.handlers.proofs.handlers_at.Reads as handlers-at-reads
 
--- src/bodies.rt:308:11
 handlers-at-requires : tie.Need-handlers-at-requires
 handlers-at-requires c κs = search laws depth 7
 
--- src/bodies.rt:309:29
 enum-known-r : tie.Need-enum-known-r
 enum-known-r c = search laws depth 7
 
--- src/bodies.rt:311:13
 enum-known-count : tie.Need-enum-known-count
 enum-known-count c = search laws depth 7
 
--- src/bodies.rt:315:20
 links-at-requires : tie.Need-links-at-requires
 links-at-requires c κs = search laws depth 7
 
--- src/bodies.rt:316:29
 enum-known-r-2 : tie.Need-enum-known-r-2
 enum-known-r-2 c = search laws depth 7
 
--- src/bodies.rt:317:25
 enum-known-link : tie.Need-enum-known-link
 enum-known-link c = search laws depth 7
 
--- src/bodies.rt:294:1
 returns : tie.Need-returns
 unfolding linkedStage
 returns c = search laws depth 7
 
--- src/bodies.rt:294:1
 returns-2 : tie.Need-returns-2
 unfolding linkedStage
 returns-2 c = search laws depth 7
 
--- src/bodies.rt:294:1
 returns-3 : tie.Need-returns-3
 unfolding linkedStage
 returns-3 c = search laws depth 7

@@ -6,16 +6,13 @@ use Rattle.code_bodies.proofs.listed_at.Reads as reads
 use Rattle.code_bodies.proofs.listed_at.Lts as lts
 use Rattle.code_bodies.proofs.linked_at.Reads as linked-at-reads
 
--- src/bodies.rt:348:9
 linked-at-requires : tie.Need-linked-at-requires
 linked-at-requires c κs = search laws depth 7
 
--- src/bodies.rt:348:9
 returns : tie.Need-returns
 unfolding listedStage
 returns c = search laws depth 7
 
--- src/bodies.rt:332:1
 returns-2 : tie.Need-returns-2
 unfolding listedStage
 returns-2 c = search laws depth 7

@@ -7,28 +7,22 @@ use Rattle.code_bodies.proofs.parts_at.Lts as lts
 use Rattle.code_bodies.proofs.listed_at.Reads as listed-at-reads
 use Rattle.code_bodies.proofs.tries_found.Reads as tries-found-reads
 
--- src/bodies.rt:385:11
 tries-found-requires : tie.Need-tries-found-requires
 tries-found-requires c κs = search laws depth 7
 
--- src/bodies.rt:386:27
 enum-known-r : tie.Need-enum-known-r
 enum-known-r c = search laws depth 7
 
--- src/bodies.rt:387:23
 enum-known-attempt : tie.Need-enum-known-attempt
 enum-known-attempt c = search laws depth 7
 
--- src/bodies.rt:387:35
 listed-at-requires : tie.Need-listed-at-requires
 listed-at-requires c κs = search laws depth 7
 
--- src/bodies.rt:372:1
 returns : tie.Need-returns
 unfolding partsStage
 returns c = search laws depth 7
 
--- src/bodies.rt:372:1
 returns-2 : tie.Need-returns-2
 unfolding partsStage
 returns-2 c = search laws depth 7

@@ -13,59 +13,45 @@ Inv-loop s order units item from count k place₀ floor₀ kept₀ i₀ left₀ 
 abbrev μ-loop : tie.MeasureT-loop
 μ-loop s order units item from count k place₀ floor₀ kept₀ i₀ left₀ place floor kept i left = left
 
--- src/bodies.rt:224:5
 loop-holds : tie.Need-loop-holds Inv-loop μ-loop
 loop-holds c = search laws
 
--- src/bodies.rt:225:13
 try-read-requires : tie.Need-try-read-requires Inv-loop μ-loop
 try-read-requires c κs = search laws
 
--- src/bodies.rt:226:12
 is-try-allowed-requires : tie.Need-is-try-allowed-requires Inv-loop μ-loop
 is-try-allowed-requires c κs = search laws
 
--- src/bodies.rt:227:13
 newer-try-requires : tie.Need-newer-try-requires Inv-loop μ-loop
 newer-try-requires c κs = search laws
 
--- src/bodies.rt:228:21
 cast-floor : tie.Need-cast-floor Inv-loop μ-loop
 cast-floor c = search laws
 
--- src/bodies.rt:228:38
 cast-floor-2 : tie.Need-cast-floor-2 Inv-loop μ-loop
 cast-floor-2 c = search laws
 
--- src/bodies.rt:228:21
 add-floor : tie.Need-add-floor Inv-loop μ-loop
 add-floor c = search laws
 
--- src/bodies.rt:230:13
 returns : tie.Need-returns Inv-loop μ-loop
 returns c = search laws
 
--- src/bodies.rt:235:9
 add-place : tie.Need-add-place Inv-loop μ-loop
 add-place c = search laws
 
--- src/bodies.rt:236:9
 add-i : tie.Need-add-i Inv-loop μ-loop
 add-i c = search laws
 
--- src/bodies.rt:237:9
 sub-left : tie.Need-sub-left Inv-loop μ-loop
 sub-left c = search laws
 
--- src/bodies.rt:224:5
 loop-less : tie.Need-loop-less Inv-loop μ-loop
 loop-less c = search laws
 
--- src/bodies.rt:224:5
 loop-again : tie.Need-loop-again Inv-loop μ-loop
 loop-again c = search laws
 
--- src/bodies.rt:203:1
 returns-2 : tie.Need-returns-2 Inv-loop μ-loop
 returns-2 c = search laws
 

@@ -6,27 +6,21 @@ use Rattle.code_bodies.proofs.try_read.Lts as lts
 use Rattle.word.proofs.u16_at.Reads as u16-at-reads
 use Rattle.word.proofs.u32_at.Reads as u32-at-reads
 
--- src/bodies.rt:165:16
 u32-at-requires : tie.Need-u32-at-requires
 u32-at-requires c κs = search laws
 
--- src/bodies.rt:166:32
 add-u16-at : tie.Need-add-u16-at
 add-u16-at c = search laws
 
--- src/bodies.rt:166:16
 u16-at-requires : tie.Need-u16-at-requires
 u16-at-requires c κs = search laws
 
--- src/bodies.rt:167:34
 add-u16-at-2 : tie.Need-add-u16-at-2
 add-u16-at-2 c = search laws
 
--- src/bodies.rt:167:18
 u16-at-requires-2 : tie.Need-u16-at-requires-2
 u16-at-requires-2 c κs = search laws
 
--- src/bodies.rt:160:1
 returns : tie.Need-returns
 returns c = search laws
 

@@ -7,83 +7,63 @@ use Rattle.frame.proofs.is_allowed_or_absent.Reads as is-allowed-or-absent-read
 use Rattle.word.proofs.u16_at.Reads as u16-at-reads
 use Rattle.word.proofs.u32_at.Reads as u32-at-reads
 
--- src/heads.rt:112:9
 returns : tie.Need-returns
 returns c = search laws
 
--- src/heads.rt:117:8
 sub-if2 : tie.Need-sub-if2
 sub-if2 c = search laws
 
--- src/heads.rt:118:9
 returns-2 : tie.Need-returns-2
 returns-2 c = search laws
 
--- src/heads.rt:123:33
 add-u32-at : tie.Need-add-u32-at
 add-u32-at c = search laws
 
--- src/heads.rt:123:9
 u32-at-requires : tie.Need-u32-at-requires
 u32-at-requires c κs = search laws
 
--- src/heads.rt:124:61
 cast-is-allowed-or-absent : tie.Need-cast-is-allowed-or-absent
 cast-is-allowed-or-absent c = search laws
 
--- src/heads.rt:124:8
 is-allowed-or-absent-requires : tie.Need-is-allowed-or-absent-requires
 is-allowed-or-absent-requires c κs = search laws
 
--- src/heads.rt:125:12
 sub-if4 : tie.Need-sub-if4
 sub-if4 c = search laws
 
--- src/heads.rt:126:13
 returns-3 : tie.Need-returns-3
 returns-3 c = search laws
 
--- src/heads.rt:132:24
 u16-at-requires : tie.Need-u16-at-requires
 u16-at-requires c κs = search laws
 
--- src/heads.rt:133:34
 add-u16-at : tie.Need-add-u16-at
 add-u16-at c = search laws
 
--- src/heads.rt:133:18
 u16-at-requires-2 : tie.Need-u16-at-requires-2
 u16-at-requires-2 c κs = search laws
 
--- src/heads.rt:134:35
 add-u16-at-2 : tie.Need-add-u16-at-2
 add-u16-at-2 c = search laws
 
--- src/heads.rt:134:19
 u16-at-requires-3 : tie.Need-u16-at-requires-3
 u16-at-requires-3 c κs = search laws
 
--- src/heads.rt:135:36
 add-u16-at-3 : tie.Need-add-u16-at-3
 add-u16-at-3 c = search laws
 
--- src/heads.rt:135:20
 u16-at-requires-4 : tie.Need-u16-at-requires-4
 u16-at-requires-4 c κs = search laws
 
--- src/heads.rt:137:36
 add-u32-at-2 : tie.Need-add-u32-at-2
 add-u32-at-2 c = search laws
 
--- src/heads.rt:137:20
 u32-at-requires-2 : tie.Need-u32-at-requires-2
 u32-at-requires-2 c κs = search laws
 
--- src/heads.rt:131:9
 returns-4 : tie.Need-returns-4
 returns-4 c = search laws
 
--- src/heads.rt:107:1
 returns-5 : tie.Need-returns-5
 returns-5 c = search laws
 

@@ -5,12 +5,10 @@ use Rattle.code_item.proofs.catch_in.Tie as tie
 use Rattle.code_item.proofs.catch_in.Reads as reads
 use Rattle.code_item.proofs.catch_in.Lts as lts
 
--- src/items.rt:504:9
 returns : tie.Need-returns
 unfolding catchIn
 returns c = search laws
 
--- src/items.rt:500:1
 returns-2 : tie.Need-returns-2
 unfolding catchIn
 returns-2 c = search laws

@@ -5,23 +5,18 @@ use Rattle.code_item.proofs.code_at.Reads as reads
 use Rattle.code_item.proofs.code_at.Lts as lts
 use Rattle.code_bodies.proofs.kept_at.Reads as kept-at-reads
 
--- src/items.rt:447:11
 kept-at-requires : tie.Need-kept-at-requires
 kept-at-requires c κs = search laws depth 7
 
--- src/items.rt:448:29
 enum-known-r : tie.Need-enum-known-r
 enum-known-r c = search laws depth 7
 
--- src/items.rt:450:13
 enum-known-head : tie.Need-enum-known-head
 enum-known-head c = search laws depth 7
 
--- src/items.rt:444:1
 returns : tie.Need-returns
 returns c = search laws depth 7
 
--- src/items.rt:444:1
 returns-2 : tie.Need-returns-2
 returns-2 c = search laws depth 7
 

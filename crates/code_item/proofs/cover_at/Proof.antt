@@ -13,7 +13,6 @@ Inv-loop s order from count address place₀ i₀ left₀ place i left = Looking
 abbrev μ-loop : tie.MeasureT-loop
 μ-loop s order from count address place₀ i₀ left₀ place i left = left
 
--- src/bodies.rt:611:5
 loop-holds : tie.Need-loop-holds Inv-loop μ-loop
 loop-holds c = search laws
 
@@ -26,35 +25,27 @@ add-u16-at c = search laws
 u16-at-requires : tie.Need-u16-at-requires Inv-loop μ-loop
 u16-at-requires c κs = search laws
 
--- src/bodies.rt:613:12
 is-covering-requires : tie.Need-is-covering-requires Inv-loop μ-loop
 is-covering-requires c κs = search laws
 
--- src/bodies.rt:614:13
 returns : tie.Need-returns Inv-loop μ-loop
 returns c = search laws
 
--- src/bodies.rt:616:9
 add-place : tie.Need-add-place Inv-loop μ-loop
 add-place c = search laws
 
--- src/bodies.rt:617:9
 add-i : tie.Need-add-i Inv-loop μ-loop
 add-i c = search laws
 
--- src/bodies.rt:618:9
 sub-left : tie.Need-sub-left Inv-loop μ-loop
 sub-left c = search laws
 
--- src/bodies.rt:611:5
 loop-less : tie.Need-loop-less Inv-loop μ-loop
 loop-less c = search laws
 
--- src/bodies.rt:611:5
 loop-again : tie.Need-loop-again Inv-loop μ-loop
 loop-again c = search laws
 
--- src/bodies.rt:604:1
 returns-2 : tie.Need-returns-2 Inv-loop μ-loop
 returns-2 c = search laws
 

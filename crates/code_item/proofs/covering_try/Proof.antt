@@ -6,27 +6,21 @@ use Rattle.code_item.proofs.covering_try.Lts as lts
 use Rattle.code_item.proofs.cover_at.Reads as cover-at-reads
 use Rattle.code_bodies.proofs.kept_at.Reads as kept-at-reads
 
--- src/bodies.rt:628:11
 kept-at-requires : tie.Need-kept-at-requires
 kept-at-requires c κs = search laws
 
--- src/bodies.rt:629:29
 enum-known-r : tie.Need-enum-known-r
 enum-known-r c = search laws
 
--- src/bodies.rt:631:13
 enum-known-head : tie.Need-enum-known-head
 enum-known-head c = search laws
 
--- src/bodies.rt:639:31
 cover-at-requires : tie.Need-cover-at-requires
 cover-at-requires c κs = search laws
 
--- src/bodies.rt:624:1
 returns : tie.Need-returns
 returns c = search laws
 
--- src/bodies.rt:624:1
 returns-2 : tie.Need-returns-2
 returns-2 c = search laws
 

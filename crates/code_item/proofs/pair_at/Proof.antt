@@ -6,31 +6,24 @@ use Rattle.code_item.proofs.pair_at.Lts as lts
 use Rattle.code_bodies.proofs.kept_at.Reads as kept-at-reads
 use Rattle.code_item.proofs.pair_in.Reads as pair-in-reads
 
--- src/items.rt:557:11
 kept-at-requires : tie.Need-kept-at-requires
 kept-at-requires c κs = search laws depth 7
 
--- src/items.rt:558:29
 enum-known-r : tie.Need-enum-known-r
 enum-known-r c = search laws depth 7
 
--- src/items.rt:563:13
 enum-known-handlers : tie.Need-enum-known-handlers
 enum-known-handlers c = search laws depth 7
 
--- src/items.rt:570:17
 pair-in-requires : tie.Need-pair-in-requires
 pair-in-requires c κs = search laws depth 7
 
--- src/items.rt:570:17
 returns : tie.Need-returns
 returns c = search laws depth 7
 
--- src/items.rt:554:1
 returns-2 : tie.Need-returns-2
 returns-2 c = search laws depth 7
 
--- src/items.rt:554:1
 returns-3 : tie.Need-returns-3
 returns-3 c = search laws depth 7
 

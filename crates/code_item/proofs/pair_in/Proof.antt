@@ -5,12 +5,10 @@ use Rattle.code_item.proofs.pair_in.Tie as tie
 use Rattle.code_item.proofs.pair_in.Reads as reads
 use Rattle.code_item.proofs.pair_in.Lts as lts
 
--- src/items.rt:546:9
 returns : tie.Need-returns
 unfolding pairIn
 returns c = search laws
 
--- src/items.rt:541:1
 returns-2 : tie.Need-returns-2
 unfolding pairIn
 returns-2 c = search laws

@@ -5,31 +5,24 @@ use Rattle.code_item.proofs.try_at.Reads as reads
 use Rattle.code_item.proofs.try_at.Lts as lts
 use Rattle.code_bodies.proofs.kept_at.Reads as kept-at-reads
 
--- src/items.rt:472:11
 kept-at-requires : tie.Need-kept-at-requires
 kept-at-requires c κs = search laws depth 7
 
--- src/items.rt:473:29
 enum-known-r : tie.Need-enum-known-r
 enum-known-r c = search laws depth 7
 
--- src/items.rt:475:13
 enum-known-head : tie.Need-enum-known-head
 enum-known-head c = search laws depth 7
 
--- src/items.rt:484:20
 cast-if1 : tie.Need-cast-if1
 cast-if1 c = search laws depth 7
 
--- src/items.rt:485:17
 returns : tie.Need-returns
 returns c = search laws depth 7
 
--- src/items.rt:469:1
 returns-2 : tie.Need-returns-2
 returns-2 c = search laws depth 7
 
--- src/items.rt:469:1
 returns-3 : tie.Need-returns-3
 returns-3 c = search laws depth 7
 

@@ -7,45 +7,35 @@ use Rattle.debug_info.proofs.body_at.Lts as lts
 use Rattle.debug_info.proofs.names_at.Reads as names-at-reads
 use Rattle.debug_info.proofs.zero_at.Reads as zero-at-reads
 
--- src/lib.rt:149:11
 names-at-requires : tie.Need-names-at-requires
 names-at-requires c κs = search laws depth 7
 
--- src/lib.rt:150:28
 enum-known-r : tie.Need-enum-known-r
 enum-known-r c = search laws depth 7
 
--- src/lib.rt:151:26
 enum-known-name : tie.Need-enum-known-name
 enum-known-name c = search laws depth 7
 
--- src/lib.rt:151:48
 zero-at-requires : tie.Need-zero-at-requires
 zero-at-requires c κs = search laws depth 7
 
--- src/lib.rt:152:27
 enum-known-r-2 : tie.Need-enum-known-r-2
 enum-known-r-2 c = search laws depth 7
 
--- src/lib.rt:153:23
 enum-known-zero : tie.Need-enum-known-zero
 enum-known-zero c = search laws depth 7
 
--- src/lib.rt:158:25
 sub-t17 : tie.Need-sub-t17
 sub-t17 c = search laws depth 7
 
--- src/lib.rt:138:1
 returns : tie.Need-returns
 unfolding bodyAt
 returns c = search laws depth 7
 
--- src/lib.rt:138:1
 returns-2 : tie.Need-returns-2
 unfolding bodyAt
 returns-2 c = search laws depth 7
 
--- src/lib.rt:138:1
 returns-3 : tie.Need-returns-3
 unfolding bodyAt
 returns-3 c = search laws depth 7

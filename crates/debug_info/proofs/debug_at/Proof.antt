@@ -5,23 +5,18 @@ use Rattle.debug_info.proofs.debug_at.Reads as reads
 use Rattle.debug_info.proofs.debug_at.Lts as lts
 use Rattle.debug_info.proofs.kept_at.Reads as kept-at-reads
 
--- src/lib.rt:184:11
 kept-at-requires : tie.Need-kept-at-requires
 kept-at-requires c κs = search laws depth 7
 
--- src/lib.rt:185:29
 enum-known-r : tie.Need-enum-known-r
 enum-known-r c = search laws depth 7
 
--- src/lib.rt:187:13
 enum-known-line : tie.Need-enum-known-line
 enum-known-line c = search laws depth 7
 
--- src/lib.rt:181:1
 returns : tie.Need-returns
 returns c = search laws depth 7
 
--- src/lib.rt:181:1
 returns-2 : tie.Need-returns-2
 returns-2 c = search laws depth 7
 

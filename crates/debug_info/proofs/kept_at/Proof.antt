@@ -7,45 +7,35 @@ use Rattle.debug_info.proofs.kept_at.Lts as lts
 use Rattle.debug_info.proofs.body_at.Reads as body-at-reads
 use Rattle.leb128.proofs.uleb.Reads as uleb-reads
 
--- src/lib.rt:168:11
 uleb-requires : tie.Need-uleb-requires
 uleb-requires c κs = search laws depth 7
 
--- src/lib.rt:169:22
 enum-known-r : tie.Need-enum-known-r
 enum-known-r c = search laws depth 7
 
--- src/lib.rt:170:27
 enum-known-line : tie.Need-enum-known-line
 enum-known-line c = search laws depth 7
 
--- src/lib.rt:170:49
 uleb-requires-2 : tie.Need-uleb-requires-2
 uleb-requires-2 c κs = search laws depth 7
 
--- src/lib.rt:171:26
 enum-known-r-2 : tie.Need-enum-known-r-2
 enum-known-r-2 c = search laws depth 7
 
--- src/lib.rt:173:24
 enum-known-count : tie.Need-enum-known-count
 enum-known-count c = search laws depth 7
 
--- src/lib.rt:175:18
 body-at-requires : tie.Need-body-at-requires
 body-at-requires c κs = search laws depth 7
 
--- src/lib.rt:165:1
 returns : tie.Need-returns
 unfolding keptAt
 returns c = search laws depth 7
 
--- src/lib.rt:165:1
 returns-2 : tie.Need-returns-2
 unfolding keptAt
 returns-2 c = search laws depth 7
 
--- src/lib.rt:165:1
 returns-3 : tie.Need-returns-3
 unfolding keptAt
 returns-3 c = search laws depth 7

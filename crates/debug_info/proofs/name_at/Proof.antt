@@ -5,27 +5,21 @@ use Rattle.debug_info.proofs.name_at.Reads as reads
 use Rattle.debug_info.proofs.name_at.Lts as lts
 use Rattle.debug_info.proofs.kept_at.Reads as kept-at-reads
 
--- src/lib.rt:205:11
 kept-at-requires : tie.Need-kept-at-requires
 kept-at-requires c κs = search laws depth 7
 
--- src/lib.rt:206:29
 enum-known-r : tie.Need-enum-known-r
 enum-known-r c = search laws depth 7
 
--- src/lib.rt:209:13
 enum-known-names : tie.Need-enum-known-names
 enum-known-names c = search laws depth 7
 
--- src/lib.rt:215:17
 returns : tie.Need-returns
 returns c = search laws depth 7
 
--- src/lib.rt:202:1
 returns-2 : tie.Need-returns-2
 returns-2 c = search laws depth 7
 
--- src/lib.rt:202:1
 returns-3 : tie.Need-returns-3
 returns-3 c = search laws depth 7
 

@@ -6,38 +6,30 @@ use Rattle.debug_info.proofs.name_found.Reads as reads
 use Rattle.debug_info.proofs.name_found.Lts as lts
 use Rattle.leb128.proofs.uleb_p1.Reads as uleb-p1-reads
 
--- src/lib.rt:61:11
 uleb-p1-requires : tie.Need-uleb-p1-requires
 uleb-p1-requires c κs = search laws depth 7
 
--- src/lib.rt:62:26
 enum-known-r : tie.Need-enum-known-r
 enum-known-r c = search laws depth 7
 
--- src/lib.rt:63:27
 enum-known-next : tie.Need-enum-known-next
 enum-known-next c = search laws depth 7
 
--- src/lib.rt:67:24
 enum-known-value : tie.Need-enum-known-value
 enum-known-value c = search laws depth 7
 
--- src/lib.rt:69:17
 returns : tie.Need-returns
 unfolding nameAt
 returns c = search laws depth 7
 
--- src/lib.rt:58:1
 returns-2 : tie.Need-returns-2
 unfolding nameAt
 returns-2 c = search laws depth 7
 
--- src/lib.rt:58:1
 returns-3 : tie.Need-returns-3
 unfolding nameAt
 returns-3 c = search laws depth 7
 
--- src/lib.rt:58:1
 returns-4 : tie.Need-returns-4
 unfolding nameAt
 returns-4 c = search laws depth 7

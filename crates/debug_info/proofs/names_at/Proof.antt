@@ -12,47 +12,36 @@ Inv-loop s strings item from count k p₀ kept₀ i₀ left₀ p kept i left = N
 abbrev μ-loop : tie.MeasureT-loop
 μ-loop s strings item from count k p₀ kept₀ i₀ left₀ p kept i left = left
 
--- src/lib.rt:100:5
 loop-holds : tie.Need-loop-holds Inv-loop μ-loop
 loop-holds c = search laws
 
--- src/lib.rt:101:15
 name-found-requires : tie.Need-name-found-requires Inv-loop μ-loop
 name-found-requires c κs = search laws
 
--- src/lib.rt:102:32
 enum-known-r : tie.Need-enum-known-r Inv-loop μ-loop
 enum-known-r c = search laws
 
--- src/lib.rt:103:17
 returns : tie.Need-returns Inv-loop μ-loop
 returns c = search laws
 
--- src/lib.rt:105:30
 enum-known-name : tie.Need-enum-known-name Inv-loop μ-loop
 enum-known-name c = search laws
 
--- src/lib.rt:106:17
 newer-requires : tie.Need-newer-requires Inv-loop μ-loop
 newer-requires c κs = search laws
 
--- src/lib.rt:110:9
 add-i : tie.Need-add-i Inv-loop μ-loop
 add-i c = search laws
 
--- src/lib.rt:111:9
 sub-left : tie.Need-sub-left Inv-loop μ-loop
 sub-left c = search laws
 
--- src/lib.rt:100:5
 loop-less : tie.Need-loop-less Inv-loop μ-loop
 loop-less c = search laws
 
--- src/lib.rt:100:5
 loop-again : tie.Need-loop-again Inv-loop μ-loop
 loop-again c = search laws
 
--- src/lib.rt:93:1
 returns-2 : tie.Need-returns-2 Inv-loop μ-loop
 returns-2 c = search laws
 

@@ -12,31 +12,24 @@ Inv-loop s item start p₀ p = Head s item start p
 abbrev μ-loop : tie.MeasureT-loop
 μ-loop s item start p₀ p = length s - p
 
--- src/lib.rt:124:5
 loop-holds : tie.Need-loop-holds Inv-loop μ-loop
 loop-holds c = search laws
 
--- src/lib.rt:125:16
 shared-slice-read-if1 : tie.Need-shared-slice-read-if1 Inv-loop μ-loop
 shared-slice-read-if1 c = search laws
 
--- src/lib.rt:126:13
 add-p : tie.Need-add-p Inv-loop μ-loop
 add-p c = search laws
 
--- src/lib.rt:124:5
 loop-less : tie.Need-loop-less Inv-loop μ-loop
 loop-less c = search laws
 
--- src/lib.rt:124:5
 loop-again : tie.Need-loop-again Inv-loop μ-loop
 loop-again c = search laws
 
--- src/lib.rt:129:9
 returns : tie.Need-returns Inv-loop μ-loop
 returns c = search laws
 
--- src/lib.rt:120:1
 returns-2 : tie.Need-returns-2 Inv-loop μ-loop
 returns-2 c = search laws
 

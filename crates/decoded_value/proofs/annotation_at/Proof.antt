@@ -5,39 +5,30 @@ use Rattle.decoded_value.proofs.annotation_at.Reads as reads
 use Rattle.decoded_value.proofs.annotation_at.Lts as lts
 use Rattle.encoded_value.proofs.annotation_body.Reads as annotation-body-reads
 
--- src/lib.rt:221:48
 add-annotation-body : tie.Need-add-annotation-body
 add-annotation-body c = search laws
 
--- src/lib.rt:221:11
 annotation-body-requires : tie.Need-annotation-body-requires
 annotation-body-requires c κs = search laws
 
--- src/lib.rt:222:23
 enum-known-r : tie.Need-enum-known-r
 enum-known-r c = search laws
 
--- src/lib.rt:223:20
 enum-known-end : tie.Need-enum-known-end
 enum-known-end c = search laws
 
--- src/lib.rt:225:25
 add-t10 : tie.Need-add-t10
 add-t10 c = search laws
 
--- src/lib.rt:226:25
 sub-t11 : tie.Need-sub-t11
 sub-t11 c = search laws
 
--- src/lib.rt:226:25
 sub-t12 : tie.Need-sub-t12
 sub-t12 c = search laws
 
--- src/lib.rt:217:1
 returns : tie.Need-returns
 returns c = search laws
 
--- src/lib.rt:217:1
 returns-2 : tie.Need-returns-2
 returns-2 c = search laws
 

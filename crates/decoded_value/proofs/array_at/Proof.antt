@@ -5,39 +5,30 @@ use Rattle.decoded_value.proofs.array_at.Reads as reads
 use Rattle.decoded_value.proofs.array_at.Lts as lts
 use Rattle.encoded_value.proofs.array_body.Reads as array-body-reads
 
--- src/lib.rt:204:43
 add-array-body : tie.Need-add-array-body
 add-array-body c = search laws
 
--- src/lib.rt:204:11
 array-body-requires : tie.Need-array-body-requires
 array-body-requires c κs = search laws
 
--- src/lib.rt:205:23
 enum-known-r : tie.Need-enum-known-r
 enum-known-r c = search laws
 
--- src/lib.rt:206:20
 enum-known-next : tie.Need-enum-known-next
 enum-known-next c = search laws
 
--- src/lib.rt:208:25
 add-t10 : tie.Need-add-t10
 add-t10 c = search laws
 
--- src/lib.rt:209:25
 sub-t11 : tie.Need-sub-t11
 sub-t11 c = search laws
 
--- src/lib.rt:209:25
 sub-t12 : tie.Need-sub-t12
 sub-t12 c = search laws
 
--- src/lib.rt:200:1
 returns : tie.Need-returns
 returns c = search laws
 
--- src/lib.rt:200:1
 returns-2 : tie.Need-returns-2
 returns-2 c = search laws
 

@@ -9,63 +9,48 @@ use Rattle.decoded_value.proofs.plain_of.Reads as plain-of-reads
 use Rattle.value_heads.proofs.checked_number.Reads as checked-number-reads
 use Rattle.value_heads.proofs.head_at.Reads as head-at-reads
 
--- src/lib.rt:237:11
 head-at-requires : tie.Need-head-at-requires
 head-at-requires c κs = search laws
 
--- src/lib.rt:238:27
 enum-known-r : tie.Need-enum-known-r
 enum-known-r c = search laws
 
--- src/lib.rt:239:23
 enum-known-head : tie.Need-enum-known-head
 enum-known-head c = search laws
 
--- src/lib.rt:242:17
 array-at-requires : tie.Need-array-at-requires
 array-at-requires c κs = search laws
 
--- src/lib.rt:242:17
 returns : tie.Need-returns
 returns c = search laws
 
--- src/lib.rt:245:17
 annotation-at-requires : tie.Need-annotation-at-requires
 annotation-at-requires c κs = search laws
 
--- src/lib.rt:245:17
 returns-2 : tie.Need-returns-2
 returns-2 c = search laws
 
--- src/lib.rt:247:55
 add-checked-number : tie.Need-add-checked-number
 add-checked-number c = search laws
 
--- src/lib.rt:247:19
 checked-number-requires : tie.Need-checked-number-requires
 checked-number-requires c κs = search laws
 
--- src/lib.rt:248:33
 enum-known-r-2 : tie.Need-enum-known-r-2
 enum-known-r-2 c = search laws
 
--- src/lib.rt:249:31
 enum-known-value : tie.Need-enum-known-value
 enum-known-value c = search laws
 
--- src/lib.rt:250:28
 plain-of-requires : tie.Need-plain-of-requires
 plain-of-requires c κs = search laws
 
--- src/lib.rt:234:1
 returns-3 : tie.Need-returns-3
 returns-3 c = search laws
 
--- src/lib.rt:234:1
 returns-4 : tie.Need-returns-4
 returns-4 c = search laws
 
--- src/lib.rt:234:1
 returns-5 : tie.Need-returns-5
 returns-5 c = search laws
 

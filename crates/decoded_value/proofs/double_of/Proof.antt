@@ -6,15 +6,12 @@ use Rattle.decoded_value.proofs.double_of.Lts as lts
 use Rattle.decoded_value.proofs.raise.Reads as raise-reads
 use Rattle.decoded_value.proofs.f64_of.Reads as f64-of-reads
 
--- src/lib.rt:141:9
 raise-requires : tie.Need-raise-requires
 raise-requires c κs = search laws
 
--- src/lib.rt:144:16
 f64-of-requires : tie.Need-f64-of-requires
 f64-of-requires c κs = search laws
 
--- src/lib.rt:137:1
 returns : tie.Need-returns
 returns c = search laws
 

@@ -10,43 +10,33 @@ use Rattle.decoded_value.proofs.extend.Lts as lts
 use Rattle.decoded_value.proofs.minus.Reads as minus-reads
 use Rattle.decoded_value.proofs.plus.Reads as plus-reads
 
--- src/lib.rt:58:25
 mul-half : tie.Need-mul-half
 mul-half c = search needs
 
--- src/lib.rt:58:25
 sub-half : tie.Need-sub-half
 sub-half c = search needs
 
--- src/lib.rt:58:25
 cast-half : tie.Need-cast-half
 cast-half c = search needs
 
--- src/lib.rt:58:16
 shl-half : tie.Need-shl-half
 shl-half c = search needs
 
--- src/lib.rt:60:9
 plus-requires : tie.Need-plus-requires
 plus-requires c κs = omega (arith, half-known (c .before .pre))
 
--- src/lib.rt:60:9
 returns : tie.Need-returns
 returns c = extend-low (c .before .before .pre) (c .plus .ensures) (omega (arith, half-known (c .before .before .pre)))
 
--- src/lib.rt:62:11
 sub-minus : tie.Need-sub-minus
 sub-minus c = omega (arith, half-known (c .before .pre))
 
--- src/lib.rt:62:11
 sub-minus-2 : tie.Need-sub-minus-2
 sub-minus-2 c = omega (arith, half-known (c .before .pre))
 
--- src/lib.rt:62:5
 minus-requires : tie.Need-minus-requires
 minus-requires c κs = omega (arith, half-known (c .before .pre))
 
--- src/lib.rt:54:1
 returns-2 : tie.Need-returns-2
 returns-2 c = extend-high (c .before .before .pre) (c .minus .ensures ∙ ap negsuc (omega (arith, half-known (c .before .before .pre)))) (omega (arith, half-known (c .before .before .pre)))
 

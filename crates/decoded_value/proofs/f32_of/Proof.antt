@@ -7,17 +7,14 @@ use Rattle.decoded_value.proofs.f32_of.Tie as tie
 use Rattle.decoded_value.proofs.f32_of.Reads as reads
 use Rattle.decoded_value.proofs.f32_of.Lts as lts
 
--- src/lib.rt:108:13
 returns : tie.Need-returns
 returns c = nan-of binary32 (c .before .before .args .bits) (c .before .if1 .taken) (c .if2 .taken)
 
--- src/lib.rt:111:5
 float-from-bits-result : tie.Need-float-from-bits-result
 float-from-bits-result c =
     let b = c .before .args .bits in
     ⊎-elim (λ w. number-digits binary32 b (w .1 .left)) (λ w. number-exponent binary32 b (w .left)) (c .if1 .came)
 
--- src/lib.rt:102:1
 returns-2 : tie.Need-returns-2
 returns-2 c = search needs
 

@@ -7,17 +7,14 @@ use Rattle.decoded_value.proofs.f64_of.Tie as tie
 use Rattle.decoded_value.proofs.f64_of.Reads as reads
 use Rattle.decoded_value.proofs.f64_of.Lts as lts
 
--- src/lib.rt:120:13
 returns : tie.Need-returns
 returns c = nan-of binary64 (c .before .before .args .bits) (c .before .if1 .taken) (c .if2 .taken)
 
--- src/lib.rt:123:5
 float-from-bits-result : tie.Need-float-from-bits-result
 float-from-bits-result c =
     let b = c .before .args .bits in
     ⊎-elim (λ w. number-digits binary64 b (w .1 .left)) (λ w. number-exponent binary64 b (w .left)) (c .if1 .came)
 
--- src/lib.rt:114:1
 returns-2 : tie.Need-returns-2
 returns-2 c = search needs
 

@@ -6,19 +6,15 @@ use Rattle.decoded_value.proofs.float_of.Lts as lts
 use Rattle.decoded_value.proofs.raise.Reads as raise-reads
 use Rattle.decoded_value.proofs.f32_of.Reads as f32-of-reads
 
--- src/lib.rt:130:16
 raise-requires : tie.Need-raise-requires
 raise-requires c κs = search laws
 
--- src/lib.rt:130:16
 cast-bits : tie.Need-cast-bits
 cast-bits c = search laws
 
--- src/lib.rt:133:16
 f32-of-requires : tie.Need-f32-of-requires
 f32-of-requires c κs = search laws
 
--- src/lib.rt:126:1
 returns : tie.Need-returns
 returns c = search laws
 

@@ -6,11 +6,9 @@ use Rattle.decoded_value.proofs.long_of.Reads as reads
 use Rattle.decoded_value.proofs.long_of.Lts as lts
 use Rattle.decoded_value.proofs.extend.Reads as extend-reads
 
--- src/lib.rt:90:17
 extend-requires : tie.Need-extend-requires
 extend-requires c κs = c .pre
 
--- src/lib.rt:86:1
 returns : tie.Need-returns
 returns c = λ i. is 0x06 (integer (long-is (c .before .pre) (c .extend .ensures) i))
 

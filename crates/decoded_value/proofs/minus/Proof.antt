@@ -4,15 +4,12 @@ use Rattle.decoded_value.proofs.minus.Tie as tie
 use Rattle.decoded_value.proofs.minus.Reads as reads
 use Rattle.decoded_value.proofs.minus.Lts as lts
 
--- src/lib.rt:50:11
 cast-result : tie.Need-cast-result
 cast-result c = search laws
 
--- src/lib.rt:50:5
 sub-result : tie.Need-sub-result
 sub-result c = search laws
 
--- src/lib.rt:46:1
 returns : tie.Need-returns
 returns c = search laws
 

@@ -9,59 +9,45 @@ use Rattle.decoded_value.proofs.long_of.Reads as long-of-reads
 use Rattle.decoded_value.proofs.rest_of.Reads as rest-of-reads
 use Rattle.decoded_value.proofs.short_of.Reads as short-of-reads
 
--- src/lib.rt:179:17
 add-size : tie.Need-add-size
 add-size c = search laws
 
--- src/lib.rt:179:16
 cast-size : tie.Need-cast-size
 cast-size c = search laws
 
--- src/lib.rt:181:9
 byte-of-requires : tie.Need-byte-of-requires
 byte-of-requires c κs = search laws
 
--- src/lib.rt:181:9
 returns : tie.Need-returns
 returns c = search laws
 
--- src/lib.rt:184:9
 short-of-requires : tie.Need-short-of-requires
 short-of-requires c κs = search laws
 
--- src/lib.rt:184:9
 returns-2 : tie.Need-returns-2
 returns-2 c = search laws
 
--- src/lib.rt:187:28
 cast-t8 : tie.Need-cast-t8
 cast-t8 c = search laws
 
--- src/lib.rt:187:9
 returns-3 : tie.Need-returns-3
 returns-3 c = search laws
 
--- src/lib.rt:190:9
 int-of-requires : tie.Need-int-of-requires
 int-of-requires c κs = search laws
 
--- src/lib.rt:190:9
 returns-4 : tie.Need-returns-4
 returns-4 c = search laws
 
--- src/lib.rt:193:9
 long-of-requires : tie.Need-long-of-requires
 long-of-requires c κs = search laws
 
--- src/lib.rt:193:9
 returns-5 : tie.Need-returns-5
 returns-5 c = search laws
 
--- src/lib.rt:195:5
 rest-of-requires : tie.Need-rest-of-requires
 rest-of-requires c κs = search laws
 
--- src/lib.rt:174:1
 returns-6 : tie.Need-returns-6
 returns-6 c = search laws
 

@@ -4,11 +4,9 @@ use Rattle.decoded_value.proofs.plus.Tie as tie
 use Rattle.decoded_value.proofs.plus.Reads as reads
 use Rattle.decoded_value.proofs.plus.Lts as lts
 
--- src/lib.rt:43:5
 cast-result : tie.Need-cast-result
 cast-result c = search laws
 
--- src/lib.rt:39:1
 returns : tie.Need-returns
 returns c = search laws
 

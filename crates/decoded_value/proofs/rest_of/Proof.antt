@@ -6,55 +6,42 @@ use Rattle.decoded_value.proofs.rest_of.Lts as lts
 use Rattle.decoded_value.proofs.double_of.Reads as double-of-reads
 use Rattle.decoded_value.proofs.float_of.Reads as float-of-reads
 
--- src/lib.rt:156:29
 add-float-of : tie.Need-add-float-of
 add-float-of c = search laws
 
--- src/lib.rt:156:28
 cast-float-of : tie.Need-cast-float-of
 cast-float-of c = search laws
 
--- src/lib.rt:156:9
 float-of-requires : tie.Need-float-of-requires
 float-of-requires c κs = search laws
 
--- src/lib.rt:156:9
 returns : tie.Need-returns
 returns c = search laws
 
--- src/lib.rt:159:30
 add-double-of : tie.Need-add-double-of
 add-double-of c = search laws
 
--- src/lib.rt:159:29
 cast-double-of : tie.Need-cast-double-of
 cast-double-of c = search laws
 
--- src/lib.rt:159:9
 double-of-requires : tie.Need-double-of-requires
 double-of-requires c κs = search laws
 
--- src/lib.rt:159:9
 returns-2 : tie.Need-returns-2
 returns-2 c = search laws
 
--- src/lib.rt:162:9
 returns-3 : tie.Need-returns-3
 returns-3 c = search laws
 
--- src/lib.rt:165:9
 returns-4 : tie.Need-returns-4
 returns-4 c = search laws
 
--- src/lib.rt:168:15
 cast-t11 : tie.Need-cast-t11
 cast-t11 c = search laws
 
--- src/lib.rt:169:17
 cast-t12 : tie.Need-cast-t12
 cast-t12 c = search laws
 
--- src/lib.rt:149:1
 returns-5 : tie.Need-returns-5
 returns-5 c = search laws
 

@@ -8,15 +8,12 @@ use Rattle.decoded_value.proofs.short_of.Reads as reads
 use Rattle.decoded_value.proofs.short_of.Lts as lts
 use Rattle.decoded_value.proofs.extend.Reads as extend-reads
 
--- src/lib.rt:76:18
 extend-requires : tie.Need-extend-requires
 extend-requires c κs = widen (c .pre) (lit≤ tt)
 
--- src/lib.rt:76:18
 cast-t4 : tie.Need-cast-t4
 cast-t4 c = narrow-fits (c .before .pre) (lit≤ tt) w16 (lit≤ tt) (c .extend .ensures)
 
--- src/lib.rt:72:1
 returns : tie.Need-returns
 returns c = λ i. is 0x02 (integer (narrow-is (c .before .pre) (lit≤ tt) w16 (lit≤ tt) (c .extend .ensures) i))
 

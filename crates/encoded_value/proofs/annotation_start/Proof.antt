@@ -7,28 +7,22 @@ use Rattle.encoded_value.proofs.annotation_start.Lts as lts
 use Rattle.value_heads.proofs.index_at.Reads as index-at-reads
 use Rattle.leb128.proofs.uleb.Reads as uleb-reads
 
--- src/lib.rt:303:11
 index-at-requires : tie.Need-index-at-requires
 index-at-requires c κs = search laws
 
--- src/lib.rt:304:22
 enum-known-r : tie.Need-enum-known-r
 enum-known-r c = search laws
 
--- src/lib.rt:305:30
 enum-known-next : tie.Need-enum-known-next
 enum-known-next c = search laws
 
--- src/lib.rt:305:40
 uleb-requires : tie.Need-uleb-requires
 uleb-requires c κs = search laws
 
--- src/lib.rt:300:1
 returns : tie.Need-returns
 unfolding startAt
 returns c = search laws
 
--- src/lib.rt:300:1
 returns-2 : tie.Need-returns-2
 unfolding startAt
 returns-2 c = search laws

@@ -6,51 +6,39 @@ use Rattle.encoded_value.proofs.bodyless_at.Lts as lts
 use Rattle.encoded_value.proofs.plain_past.Reads as plain-past-reads
 use Rattle.value_heads.proofs.head_at.Reads as head-at-reads
 
--- src/lib.rt:63:11
 head-at-requires : tie.Need-head-at-requires
 head-at-requires c κs = search laws
 
--- src/lib.rt:64:27
 enum-known-r : tie.Need-enum-known-r
 enum-known-r c = search laws
 
--- src/lib.rt:65:23
 enum-known-head : tie.Need-enum-known-head
 enum-known-head c = search laws
 
--- src/lib.rt:68:17
 returns : tie.Need-returns
 returns c = search laws
 
--- src/lib.rt:71:17
 returns-2 : tie.Need-returns-2
 returns-2 c = search laws
 
--- src/lib.rt:73:36
 add-plain-past : tie.Need-add-plain-past
 add-plain-past c = search laws
 
--- src/lib.rt:73:19
 plain-past-requires : tie.Need-plain-past-requires
 plain-past-requires c κs = search laws
 
--- src/lib.rt:74:31
 enum-known-r-2 : tie.Need-enum-known-r-2
 enum-known-r-2 c = search laws
 
--- src/lib.rt:75:28
 enum-known-q : tie.Need-enum-known-q
 enum-known-q c = search laws
 
--- src/lib.rt:60:1
 returns-3 : tie.Need-returns-3
 returns-3 c = search laws
 
--- src/lib.rt:60:1
 returns-4 : tie.Need-returns-4
 returns-4 c = search laws
 
--- src/lib.rt:60:1
 returns-5 : tie.Need-returns-5
 returns-5 c = search laws
 

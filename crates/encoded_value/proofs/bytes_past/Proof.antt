@@ -6,23 +6,18 @@ use Rattle.encoded_value.proofs.bytes_past.Lts as lts
 use Rattle.value_heads.proofs.has_room.Reads as has-room-reads
 use Rattle.value_heads.proofs.size_of.Reads as size-of-reads
 
--- src/lib.rt:204:9
 size-of-requires : tie.Need-size-of-requires
 size-of-requires c κs = search laws
 
--- src/lib.rt:205:8
 has-room-requires : tie.Need-has-room-requires
 has-room-requires c κs = search laws
 
--- src/lib.rt:206:27
 add-t8 : tie.Need-add-t8
 add-t8 c = search laws
 
--- src/lib.rt:206:9
 returns : tie.Need-returns
 returns c = search laws
 
--- src/lib.rt:201:1
 returns-2 : tie.Need-returns-2
 returns-2 c = search laws
 

@@ -7,35 +7,27 @@ use Rattle.encoded_value.proofs.bytes_past.Reads as bytes-past-reads
 use Rattle.value_heads.proofs.checked_number.Reads as checked-number-reads
 use Rattle.value_heads.proofs.is_index_code.Reads as is-index-code-reads
 
--- src/lib.rt:218:8
 is-index-code-requires : tie.Need-is-index-code-requires
 is-index-code-requires c κs = search laws
 
--- src/lib.rt:219:15
 checked-number-requires : tie.Need-checked-number-requires
 checked-number-requires c κs = search laws
 
--- src/lib.rt:220:29
 enum-known-r : tie.Need-enum-known-r
 enum-known-r c = search laws
 
--- src/lib.rt:221:17
 returns : tie.Need-returns
 returns c = search laws
 
--- src/lib.rt:223:37
 enum-known-next : tie.Need-enum-known-next
 enum-known-next c = search laws
 
--- src/lib.rt:224:17
 returns-2 : tie.Need-returns-2
 returns-2 c = search laws
 
--- src/lib.rt:228:5
 bytes-past-requires : tie.Need-bytes-past-requires
 bytes-past-requires c κs = search laws
 
--- src/lib.rt:215:1
 returns-3 : tie.Need-returns-3
 returns-3 c = search laws
 

@@ -4,19 +4,15 @@ use Rattle.encoded_value.proofs.slice_anew.Tie as tie
 use Rattle.encoded_value.proofs.slice_anew.Reads as reads
 use Rattle.encoded_value.proofs.slice_anew.Lts as lts
 
--- src/lib.rt:104:5
 sub-result : tie.Need-sub-result
 sub-result c = search laws
 
--- src/lib.rt:104:5
 part-result-start : tie.Need-part-result-start
 part-result-start c = search laws
 
--- src/lib.rt:104:5
 part-result-end : tie.Need-part-result-end
 part-result-end c = search laws
 
--- src/lib.rt:100:1
 returns : tie.Need-returns
 returns c = search laws
 

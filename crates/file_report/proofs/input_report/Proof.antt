@@ -6,19 +6,15 @@ use Rattle.file_report.proofs.input_report.Lts as lts
 use Rattle.file_report.proofs.input_verdict.Reads as input-verdict-reads
 use Rattle.report.proofs.verdict_into.Reads as verdict-into-reads
 
--- src/lib.rt:50:26
 input-verdict-requires : tie.Need-input-verdict-requires
 input-verdict-requires c κs = search laws
 
--- src/lib.rt:50:5
 verdict-into-requires : tie.Need-verdict-into-requires
 verdict-into-requires c κs = search laws
 
--- src/lib.rt:46:1
 same-length : tie.Need-same-length
 same-length c = search laws
 
--- src/lib.rt:46:1
 returns : tie.Need-returns
 returns c = search laws
 

@@ -6,16 +6,13 @@ use Rattle.file_report.proofs.input_verdict.Reads as reads
 use Rattle.file_report.proofs.input_verdict.Lts as lts
 use Rattle.file_report.proofs.verdict.Reads as verdict-reads
 
--- src/lib.rt:29:9
 returns : tie.Need-returns
 unfolding inputAt
 returns c = search laws
 
--- src/lib.rt:34:5
 verdict-requires : tie.Need-verdict-requires
 verdict-requires c κs = search laws
 
--- src/lib.rt:25:1
 returns-2 : tie.Need-returns-2
 unfolding inputAt
 returns-2 c = search laws

@@ -6,19 +6,15 @@ use Rattle.file_report.proofs.report_of.Lts as lts
 use Rattle.file_report.proofs.verdict.Reads as verdict-reads
 use Rattle.report.proofs.verdict_into.Reads as verdict-into-reads
 
--- src/lib.rt:42:26
 verdict-requires : tie.Need-verdict-requires
 verdict-requires c κs = search laws
 
--- src/lib.rt:42:5
 verdict-into-requires : tie.Need-verdict-into-requires
 verdict-into-requires c κs = search laws
 
--- src/lib.rt:38:1
 same-length : tie.Need-same-length
 same-length c = search laws
 
--- src/lib.rt:38:1
 returns : tie.Need-returns
 returns c = search laws
 

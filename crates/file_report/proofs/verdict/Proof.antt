@@ -7,28 +7,22 @@ use Rattle.file_report.proofs.verdict.Lts as lts
 use Rattle.header.proofs.header_of.Reads as header-of-reads
 use Rattle.whole_check.proofs.check.Reads as check-reads
 
--- src/lib.rt:18:11
 check-requires : tie.Need-check-requires
 check-requires c κs = search laws
 
--- src/lib.rt:19:26
 enum-known-r : tie.Need-enum-known-r
 enum-known-r c = search laws
 
--- src/lib.rt:20:30
 enum-told : tie.Need-enum-told
 enum-told c = search laws
 
--- src/lib.rt:20:30
 header-of-requires : tie.Need-header-of-requires
 header-of-requires c κs = search laws
 
--- src/lib.rt:15:1
 returns : tie.Need-returns
 unfolding verdictAt
 returns c = search laws
 
--- src/lib.rt:15:1
 returns-2 : tie.Need-returns-2
 unfolding verdictAt
 returns-2 c = search laws

@@ -4,19 +4,15 @@ use Rattle.frame.proofs.is_allowed.Tie as tie
 use Rattle.frame.proofs.is_allowed.Reads as reads
 use Rattle.frame.proofs.is_allowed.Lts as lts
 
--- src/lib.rt:23:9
 returns : tie.Need-returns
 returns c = search laws
 
--- src/lib.rt:26:9
 returns-2 : tie.Need-returns-2
 returns-2 c = search laws
 
--- src/lib.rt:29:9
 returns-3 : tie.Need-returns-3
 returns-3 c = search laws
 
--- src/lib.rt:19:1
 returns-4 : tie.Need-returns-4
 returns-4 c = search laws
 

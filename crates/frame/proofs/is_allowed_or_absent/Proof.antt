@@ -5,15 +5,12 @@ use Rattle.frame.proofs.is_allowed_or_absent.Reads as reads
 use Rattle.frame.proofs.is_allowed_or_absent.Lts as lts
 use Rattle.frame.proofs.is_allowed.Reads as is-allowed-reads
 
--- src/lib.rt:39:9
 returns : tie.Need-returns
 returns c = search laws
 
--- src/lib.rt:41:5
 is-allowed-requires : tie.Need-is-allowed-requires
 is-allowed-requires c κs = search laws
 
--- src/lib.rt:35:1
 returns-2 : tie.Need-returns-2
 returns-2 c = search laws
 

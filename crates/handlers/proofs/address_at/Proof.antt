@@ -6,29 +6,23 @@ use Rattle.handlers.proofs.address_at.Reads as reads
 use Rattle.handlers.proofs.address_at.Lts as lts
 use Rattle.leb128.proofs.uleb.Reads as uleb-reads
 
--- src/lib.rt:78:11
 uleb-requires : tie.Need-uleb-requires
 uleb-requires c κs = search laws depth 7
 
--- src/lib.rt:79:22
 enum-known-r : tie.Need-enum-known-r
 enum-known-r c = search laws depth 7
 
--- src/lib.rt:80:20
 enum-known-value : tie.Need-enum-known-value
 enum-known-value c = search laws depth 7
 
--- src/lib.rt:82:17
 returns : tie.Need-returns
 unfolding addressAt
 returns c = search laws depth 7
 
--- src/lib.rt:74:1
 returns-2 : tie.Need-returns-2
 unfolding addressAt
 returns-2 c = search laws depth 7
 
--- src/lib.rt:74:1
 returns-3 : tie.Need-returns-3
 unfolding addressAt
 returns-3 c = search laws depth 7

@@ -7,33 +7,26 @@ use Rattle.handlers.proofs.all_at.Lts as lts
 use Rattle.handlers.proofs.address_at.Reads as address-at-reads
 use Rattle.handlers.proofs.is_catching.Reads as is-catching-reads
 
--- src/lib.rt:164:8
 is-catching-requires : tie.Need-is-catching-requires
 is-catching-requires c κs = search laws depth 8
 
--- src/lib.rt:165:22
 address-at-requires : tie.Need-address-at-requires
 address-at-requires c κs = search laws depth 8
 
--- src/lib.rt:166:26
 enum-known-r : tie.Need-enum-known-r
 enum-known-r c = search laws depth 8
 
--- src/lib.rt:167:24
 enum-known-value : tie.Need-enum-known-value
 enum-known-value c = search laws depth 8
 
--- src/lib.rt:165:9
 returns : tie.Need-returns
 unfolding allAt
 returns c = search laws depth 8
 
--- src/lib.rt:165:9
 returns-2 : tie.Need-returns-2
 unfolding allAt
 returns-2 c = search laws depth 8
 
--- src/lib.rt:161:1
 returns-3 : tie.Need-returns-3
 unfolding allAt
 returns-3 c = search laws depth 8

@@ -9,36 +9,28 @@ use Rattle.handlers.proofs.rest_at.Reads as rest-at-reads
 use Rattle.leb128.proofs.sleb.Reads as sleb-reads
 use Rattle.sign.proofs.magnitude_of.Reads as magnitude-of-reads
 
--- src/lib.rt:229:9
 offset-of-requires : tie.Need-offset-of-requires
 offset-of-requires c κs = search laws depth 7
 
--- src/lib.rt:230:11
 sleb-requires : tie.Need-sleb-requires
 sleb-requires c κs = search laws depth 7
 
--- src/lib.rt:231:28
 enum-known-r : tie.Need-enum-known-r
 enum-known-r c = search laws depth 7
 
--- src/lib.rt:232:33
 enum-known-size : tie.Need-enum-known-size
 enum-known-size c = search laws depth 7
 
--- src/lib.rt:233:17
 magnitude-of-requires : tie.Need-magnitude-of-requires
 magnitude-of-requires c κs = search laws depth 7
 
--- src/lib.rt:234:13
 rest-at-requires : tie.Need-rest-at-requires
 rest-at-requires c κs = search laws depth 7
 
--- src/lib.rt:226:1
 returns : tie.Need-returns
 unfolding stagedHandler
 returns c = search laws depth 7
 
--- src/lib.rt:226:1
 returns-2 : tie.Need-returns-2
 unfolding stagedHandler
 returns-2 c = search laws depth 7

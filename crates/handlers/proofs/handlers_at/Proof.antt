@@ -7,46 +7,36 @@ use Rattle.handlers.proofs.handlers_at.Lts as lts
 use Rattle.handlers.proofs.list_found.Reads as list-found-reads
 use Rattle.leb128.proofs.uleb.Reads as uleb-reads
 
--- src/lib.rt:290:11
 uleb-requires : tie.Need-uleb-requires
 uleb-requires c κs = search laws depth 9
 
--- src/lib.rt:291:22
 enum-known-r : tie.Need-enum-known-r
 enum-known-r c = search laws depth 9
 
--- src/lib.rt:293:20
 enum-known-count : tie.Need-enum-known-count
 enum-known-count c = search laws depth 9
 
--- src/lib.rt:297:30
 list-found-requires : tie.Need-list-found-requires
 list-found-requires c κs = search laws depth 9
 
--- src/lib.rt:298:41
 enum-known-r-2 : tie.Need-enum-known-r-2
 enum-known-r-2 c = search laws depth 9
 
--- src/lib.rt:299:39
 enum-known-brief : tie.Need-enum-known-brief
 enum-known-brief c = search laws depth 9
 
--- src/lib.rt:297:17
 returns : tie.Need-returns
 unfolding stagedAt
 returns c = search laws depth 9
 
--- src/lib.rt:297:17
 returns-2 : tie.Need-returns-2
 unfolding stagedAt
 returns-2 c = search laws depth 9
 
--- src/lib.rt:286:1
 returns-3 : tie.Need-returns-3
 unfolding stagedAt
 returns-3 c = search laws depth 9
 
--- src/lib.rt:286:1
 returns-4 : tie.Need-returns-4
 unfolding stagedAt
 returns-4 c = search laws depth 9

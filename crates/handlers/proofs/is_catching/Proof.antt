@@ -4,11 +4,9 @@ use Rattle.handlers.proofs.is_catching.Tie as tie
 use Rattle.handlers.proofs.is_catching.Reads as reads
 use Rattle.handlers.proofs.is_catching.Lts as lts
 
--- src/lib.rt:68:9
 returns : tie.Need-returns
 returns c = search laws
 
--- src/lib.rt:64:1
 returns-2 : tie.Need-returns-2
 returns-2 c = search laws
 

@@ -12,47 +12,36 @@ Inv-loop s j from count h k p₀ kept₀ i₀ left₀ p kept i left = Listing s 
 abbrev μ-loop : tie.MeasureT-loop
 μ-loop s j from count h k p₀ kept₀ i₀ left₀ p kept i left = left
 
--- src/lib.rt:266:5
 loop-holds : tie.Need-loop-holds Inv-loop μ-loop
 loop-holds c = search laws
 
--- src/lib.rt:267:15
 handler-found-requires : tie.Need-handler-found-requires Inv-loop μ-loop
 handler-found-requires c κs = search laws
 
--- src/lib.rt:268:33
 enum-known-r : tie.Need-enum-known-r Inv-loop μ-loop
 enum-known-r c = search laws
 
--- src/lib.rt:269:17
 returns : tie.Need-returns Inv-loop μ-loop
 returns c = search laws
 
--- src/lib.rt:271:31
 enum-known-brief : tie.Need-enum-known-brief Inv-loop μ-loop
 enum-known-brief c = search laws
 
--- src/lib.rt:272:17
 newer-requires : tie.Need-newer-requires Inv-loop μ-loop
 newer-requires c κs = search laws
 
--- src/lib.rt:276:9
 add-i : tie.Need-add-i Inv-loop μ-loop
 add-i c = search laws
 
--- src/lib.rt:277:9
 sub-left : tie.Need-sub-left Inv-loop μ-loop
 sub-left c = search laws
 
--- src/lib.rt:266:5
 loop-less : tie.Need-loop-less Inv-loop μ-loop
 loop-less c = search laws
 
--- src/lib.rt:266:5
 loop-again : tie.Need-loop-again Inv-loop μ-loop
 loop-again c = search laws
 
--- src/lib.rt:250:1
 returns-2 : tie.Need-returns-2 Inv-loop μ-loop
 returns-2 c = search laws
 

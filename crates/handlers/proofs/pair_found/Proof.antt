@@ -7,46 +7,36 @@ use Rattle.handlers.proofs.pair_found.Lts as lts
 use Rattle.handlers.proofs.address_at.Reads as address-at-reads
 use Rattle.leb128.proofs.uleb.Reads as uleb-reads
 
--- src/lib.rt:97:11
 uleb-requires : tie.Need-uleb-requires
 uleb-requires c κs = search laws depth 8
 
--- src/lib.rt:98:22
 enum-known-r : tie.Need-enum-known-r
 enum-known-r c = search laws depth 8
 
--- src/lib.rt:99:27
 enum-known-kind : tie.Need-enum-known-kind
 enum-known-kind c = search laws depth 8
 
--- src/lib.rt:101:30
 address-at-requires : tie.Need-address-at-requires
 address-at-requires c κs = search laws depth 8
 
--- src/lib.rt:102:34
 enum-known-r-2 : tie.Need-enum-known-r-2
 enum-known-r-2 c = search laws depth 8
 
--- src/lib.rt:104:32
 enum-known-address : tie.Need-enum-known-address
 enum-known-address c = search laws depth 8
 
--- src/lib.rt:101:17
 returns : tie.Need-returns
 unfolding pairAt
 returns c = search laws depth 8
 
--- src/lib.rt:101:17
 returns-2 : tie.Need-returns-2
 unfolding pairAt
 returns-2 c = search laws depth 8
 
--- src/lib.rt:93:1
 returns-3 : tie.Need-returns-3
 unfolding pairAt
 returns-3 c = search laws depth 8
 
--- src/lib.rt:93:1
 returns-4 : tie.Need-returns-4
 unfolding pairAt
 returns-4 c = search laws depth 8

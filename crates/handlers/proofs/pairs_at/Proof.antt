@@ -12,47 +12,36 @@ Inv-loop s j from count k p₀ kept₀ i₀ left₀ p kept i left = Pairs s j fr
 abbrev μ-loop : tie.MeasureT-loop
 μ-loop s j from count k p₀ kept₀ i₀ left₀ p kept i left = left
 
--- src/lib.rt:141:5
 loop-holds : tie.Need-loop-holds Inv-loop μ-loop
 loop-holds c = search laws
 
--- src/lib.rt:142:15
 pair-found-requires : tie.Need-pair-found-requires Inv-loop μ-loop
 pair-found-requires c κs = search laws
 
--- src/lib.rt:143:32
 enum-known-r : tie.Need-enum-known-r Inv-loop μ-loop
 enum-known-r c = search laws
 
--- src/lib.rt:144:17
 returns : tie.Need-returns Inv-loop μ-loop
 returns c = search laws
 
--- src/lib.rt:146:30
 enum-known-pair : tie.Need-enum-known-pair Inv-loop μ-loop
 enum-known-pair c = search laws
 
--- src/lib.rt:147:17
 newer-pair-requires : tie.Need-newer-pair-requires Inv-loop μ-loop
 newer-pair-requires c κs = search laws
 
--- src/lib.rt:151:9
 add-i : tie.Need-add-i Inv-loop μ-loop
 add-i c = search laws
 
--- src/lib.rt:152:9
 sub-left : tie.Need-sub-left Inv-loop μ-loop
 sub-left c = search laws
 
--- src/lib.rt:141:5
 loop-less : tie.Need-loop-less Inv-loop μ-loop
 loop-less c = search laws
 
--- src/lib.rt:141:5
 loop-again : tie.Need-loop-again Inv-loop μ-loop
 loop-again c = search laws
 
--- src/lib.rt:131:1
 returns-2 : tie.Need-returns-2 Inv-loop μ-loop
 returns-2 c = search laws
 

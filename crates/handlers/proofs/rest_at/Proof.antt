@@ -7,41 +7,32 @@ use Rattle.handlers.proofs.rest_at.Lts as lts
 use Rattle.handlers.proofs.all_at.Reads as all-at-reads
 use Rattle.handlers.proofs.pairs_at.Reads as pairs-at-reads
 
--- src/lib.rt:203:11
 pairs-at-requires : tie.Need-pairs-at-requires
 pairs-at-requires c κs = search laws depth 7
 
--- src/lib.rt:204:28
 enum-known-r : tie.Need-enum-known-r
 enum-known-r c = search laws depth 7
 
--- src/lib.rt:205:26
 enum-known-pair : tie.Need-enum-known-pair
 enum-known-pair c = search laws depth 7
 
--- src/lib.rt:205:48
 all-at-requires : tie.Need-all-at-requires
 all-at-requires c κs = search laws depth 7
 
--- src/lib.rt:206:31
 enum-known-r-2 : tie.Need-enum-known-r-2
 enum-known-r-2 c = search laws depth 7
 
--- src/lib.rt:208:17
 enum-known-caught : tie.Need-enum-known-caught
 enum-known-caught c = search laws depth 7
 
--- src/lib.rt:192:1
 returns : tie.Need-returns
 unfolding restAt
 returns c = search laws depth 7
 
--- src/lib.rt:192:1
 returns-2 : tie.Need-returns-2
 unfolding restAt
 returns-2 c = search laws depth 7
 
--- src/lib.rt:192:1
 returns-3 : tie.Need-returns-3
 unfolding restAt
 returns-3 c = search laws depth 7

@@ -7,33 +7,26 @@ use Rattle.header.proofs.body_at.Lts as lts
 use Rattle.header.proofs.tables_at.Reads as tables-at-reads
 use Rattle.word.proofs.u32_at.Reads as u32-at-reads
 
--- src/lib.rt:281:9
 u32-at-requires : tie.Need-u32-at-requires
 u32-at-requires c κs = search laws
 
--- src/lib.rt:282:16
 u32-at-requires-2 : tie.Need-u32-at-requires-2
 u32-at-requires-2 c κs = search laws
 
--- src/lib.rt:282:16
 cast-file : tie.Need-cast-file
 cast-file c = search laws
 
--- src/lib.rt:284:9
 returns : tie.Need-returns
 unfolding bodyOf
 returns c = search laws
 
--- src/lib.rt:290:9
 returns-2 : tie.Need-returns-2
 unfolding bodyOf
 returns-2 c = search laws
 
--- src/lib.rt:295:5
 tables-at-requires : tie.Need-tables-at-requires
 tables-at-requires c κs = search laws
 
--- src/lib.rt:278:1
 returns-3 : tie.Need-returns-3
 unfolding bodyOf
 returns-3 c = search laws

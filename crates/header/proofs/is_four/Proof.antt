@@ -6,39 +6,30 @@ use Rattle.header.proofs.is_four.Lts as lts
 use Rattle.header.proofs.same_four.Reads as same-four-reads
 use Rattle.word.proofs.byte_at.Reads as byte-at-reads
 
--- src/lib.rt:121:9
 byte-at-requires : tie.Need-byte-at-requires
 byte-at-requires c κs = search laws
 
--- src/lib.rt:122:26
 add-byte-at : tie.Need-add-byte-at
 add-byte-at c = search laws
 
--- src/lib.rt:122:9
 byte-at-requires-2 : tie.Need-byte-at-requires-2
 byte-at-requires-2 c κs = search laws
 
--- src/lib.rt:123:26
 add-byte-at-2 : tie.Need-add-byte-at-2
 add-byte-at-2 c = search laws
 
--- src/lib.rt:123:9
 byte-at-requires-3 : tie.Need-byte-at-requires-3
 byte-at-requires-3 c κs = search laws
 
--- src/lib.rt:124:26
 add-byte-at-3 : tie.Need-add-byte-at-3
 add-byte-at-3 c = search laws
 
--- src/lib.rt:124:9
 byte-at-requires-4 : tie.Need-byte-at-requires-4
 byte-at-requires-4 c κs = search laws
 
--- src/lib.rt:120:5
 same-four-requires : tie.Need-same-four-requires
 same-four-requires c κs = search laws
 
--- src/lib.rt:116:1
 returns : tie.Need-returns
 returns c = search laws
 

@@ -4,35 +4,27 @@ use Rattle.header.proofs.is_table_allowed.Tie as tie
 use Rattle.header.proofs.is_table_allowed.Reads as reads
 use Rattle.header.proofs.is_table_allowed.Lts as lts
 
--- src/lib.rt:174:9
 returns : tie.Need-returns
 returns c = search laws
 
--- src/lib.rt:177:9
 returns-2 : tie.Need-returns-2
 returns-2 c = search laws
 
--- src/lib.rt:180:9
 returns-3 : tie.Need-returns-3
 returns-3 c = search laws
 
--- src/lib.rt:182:35
 cast-if4 : tie.Need-cast-if4
 cast-if4 c = search laws
 
--- src/lib.rt:182:35
 mul-if4 : tie.Need-mul-if4
 mul-if4 c = search laws
 
--- src/lib.rt:182:17
 add-if4 : tie.Need-add-if4
 add-if4 c = search laws
 
--- src/lib.rt:183:9
 returns-4 : tie.Need-returns-4
 returns-4 c = search laws
 
--- src/lib.rt:168:1
 returns-5 : tie.Need-returns-5
 returns-5 c = search laws
 

@@ -5,19 +5,15 @@ use Rattle.header.proofs.join.Reads as reads
 use Rattle.header.proofs.join.Lts as lts
 use Rattle.word.proofs.u32_at.Reads as u32-at-reads
 
--- src/lib.rt:264:19
 u32-at-requires : tie.Need-u32-at-requires
 u32-at-requires c κs = search laws
 
--- src/lib.rt:265:14
 u32-at-requires-2 : tie.Need-u32-at-requires-2
 u32-at-requires-2 c κs = search laws
 
--- src/lib.rt:265:14
 cast-t15 : tie.Need-cast-t15
 cast-t15 c = search laws
 
--- src/lib.rt:252:1
 returns : tie.Need-returns
 returns c = search laws
 

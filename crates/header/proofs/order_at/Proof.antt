@@ -6,25 +6,20 @@ use Rattle.header.proofs.order_at.Reads as reads
 use Rattle.header.proofs.order_at.Lts as lts
 use Rattle.header.proofs.is_four.Reads as is-four-reads
 
--- src/lib.rt:155:8
 is-four-requires : tie.Need-is-four-requires
 is-four-requires c κs = search laws
 
--- src/lib.rt:156:9
 returns : tie.Need-returns
 unfolding orderAt
 returns c = search laws
 
--- src/lib.rt:158:8
 is-four-requires-2 : tie.Need-is-four-requires-2
 is-four-requires-2 c κs = search laws
 
--- src/lib.rt:159:9
 returns-2 : tie.Need-returns-2
 unfolding orderAt
 returns-2 c = search laws
 
--- src/lib.rt:152:1
 returns-3 : tie.Need-returns-3
 unfolding orderAt
 returns-3 c = search laws

@@ -4,19 +4,15 @@ use Rattle.header.proofs.same_four.Tie as tie
 use Rattle.header.proofs.same_four.Reads as reads
 use Rattle.header.proofs.same_four.Lts as lts
 
--- src/lib.rt:104:9
 returns : tie.Need-returns
 returns c = search laws
 
--- src/lib.rt:107:9
 returns-2 : tie.Need-returns-2
 returns-2 c = search laws
 
--- src/lib.rt:110:9
 returns-3 : tie.Need-returns-3
 returns-3 c = search laws
 
--- src/lib.rt:100:1
 returns-4 : tie.Need-returns-4
 returns-4 c = search laws
 

@@ -6,41 +6,32 @@ use Rattle.header.proofs.section_at.Reads as reads
 use Rattle.header.proofs.section_at.Lts as lts
 use Rattle.word.proofs.u32_at.Reads as u32-at-reads
 
--- src/lib.rt:231:16
 u32-at-requires : tie.Need-u32-at-requires
 u32-at-requires c κs = search laws
 
--- src/lib.rt:231:16
 cast-size : tie.Need-cast-size
 cast-size c = search laws
 
--- src/lib.rt:232:17
 u32-at-requires-2 : tie.Need-u32-at-requires-2
 u32-at-requires-2 c κs = search laws
 
--- src/lib.rt:232:17
 cast-start : tie.Need-cast-start
 cast-start c = search laws
 
--- src/lib.rt:234:9
 returns : tie.Need-returns
 unfolding sectionOf
 returns c = search laws
 
--- src/lib.rt:239:18
 add-if2 : tie.Need-add-if2
 add-if2 c = search laws
 
--- src/lib.rt:240:9
 returns-2 : tie.Need-returns-2
 unfolding sectionOf
 returns-2 c = search laws
 
--- src/lib.rt:247:14
 add-t8 : tie.Need-add-t8
 add-t8 c = search laws
 
--- src/lib.rt:228:1
 returns-3 : tie.Need-returns-3
 unfolding sectionOf
 returns-3 c = search laws

@@ -4,23 +4,18 @@ use Rattle.header.proofs.section_of.Tie as tie
 use Rattle.header.proofs.section_of.Reads as reads
 use Rattle.header.proofs.section_of.Lts as lts
 
--- src/lib.rt:369:9
 returns : tie.Need-returns
 returns c = search laws
 
--- src/lib.rt:371:5
 sub-result : tie.Need-sub-result
 sub-result c = search laws
 
--- src/lib.rt:371:5
 part-result-start : tie.Need-part-result-start
 part-result-start c = search laws
 
--- src/lib.rt:371:5
 part-result-end : tie.Need-part-result-end
 part-result-end c = search laws
 
--- src/lib.rt:364:1
 returns-2 : tie.Need-returns-2
 returns-2 c = search laws
 

@@ -7,28 +7,22 @@ use Rattle.header.proofs.sectioned.Lts as lts
 use Rattle.header.proofs.join.Reads as join-reads
 use Rattle.header.proofs.section_at.Reads as section-at-reads
 
--- src/lib.rt:302:11
 section-at-requires : tie.Need-section-at-requires
 section-at-requires c κs = search laws
 
--- src/lib.rt:303:32
 enum-known-r : tie.Need-enum-known-r
 enum-known-r c = search laws
 
--- src/lib.rt:304:28
 enum-known-d : tie.Need-enum-known-d
 enum-known-d c = search laws
 
--- src/lib.rt:304:52
 join-requires : tie.Need-join-requires
 join-requires c κs = search laws
 
--- src/lib.rt:299:1
 returns : tie.Need-returns
 unfolding sectionedAt
 returns c = search laws
 
--- src/lib.rt:299:1
 returns-2 : tie.Need-returns-2
 unfolding sectionedAt
 returns-2 c = search laws

@@ -7,28 +7,22 @@ use Rattle.header.proofs.table_at.Lts as lts
 use Rattle.header.proofs.is_table_allowed.Reads as is-table-allowed-reads
 use Rattle.word.proofs.u32_at.Reads as u32-at-reads
 
--- src/lib.rt:202:9
 u32-at-requires : tie.Need-u32-at-requires
 u32-at-requires c κs = search laws
 
--- src/lib.rt:203:34
 add-u32-at : tie.Need-add-u32-at
 add-u32-at c = search laws
 
--- src/lib.rt:203:9
 u32-at-requires-2 : tie.Need-u32-at-requires-2
 u32-at-requires-2 c κs = search laws
 
--- src/lib.rt:204:8
 is-table-allowed-requires : tie.Need-is-table-allowed-requires
 is-table-allowed-requires c κs = search laws
 
--- src/lib.rt:205:9
 returns : tie.Need-returns
 unfolding tableOf
 returns c = search laws
 
--- src/lib.rt:198:1
 returns-2 : tie.Need-returns-2
 unfolding tableOf
 returns-2 c = search laws

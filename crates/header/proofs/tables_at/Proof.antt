@@ -7,45 +7,35 @@ use Rattle.header.proofs.tables_at.Lts as lts
 use Rattle.header.proofs.sectioned.Reads as sectioned-reads
 use Rattle.header.proofs.three_at.Reads as three-at-reads
 
--- src/lib.rt:312:11
 three-at-requires : tie.Need-three-at-requires
 three-at-requires c κs = search laws depth 7
 
--- src/lib.rt:313:30
 enum-known-r : tie.Need-enum-known-r
 enum-known-r c = search laws depth 7
 
--- src/lib.rt:314:26
 enum-known-t : tie.Need-enum-known-t
 enum-known-t c = search laws depth 7
 
--- src/lib.rt:314:38
 three-at-requires-2 : tie.Need-three-at-requires-2
 three-at-requires-2 c κs = search laws depth 7
 
--- src/lib.rt:315:34
 enum-known-r-2 : tie.Need-enum-known-r-2
 enum-known-r-2 c = search laws depth 7
 
--- src/lib.rt:316:30
 enum-known-u : tie.Need-enum-known-u
 enum-known-u c = search laws depth 7
 
--- src/lib.rt:316:36
 sectioned-requires : tie.Need-sectioned-requires
 sectioned-requires c κs = search laws depth 7
 
--- src/lib.rt:309:1
 returns : tie.Need-returns
 unfolding tablesAt
 returns c = search laws depth 7
 
--- src/lib.rt:309:1
 returns-2 : tie.Need-returns-2
 unfolding tablesAt
 returns-2 c = search laws depth 7
 
--- src/lib.rt:309:1
 returns-3 : tie.Need-returns-3
 unfolding tablesAt
 returns-3 c = search laws depth 7

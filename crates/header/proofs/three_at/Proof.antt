@@ -6,66 +6,51 @@ use Rattle.header.proofs.three_at.Reads as reads
 use Rattle.header.proofs.three_at.Lts as lts
 use Rattle.header.proofs.table_at.Reads as table-at-reads
 
--- src/lib.rt:211:11
 table-at-requires : tie.Need-table-at-requires
 table-at-requires c κs = search laws depth 9
 
--- src/lib.rt:212:30
 enum-known-r : tie.Need-enum-known-r
 enum-known-r c = search laws depth 9
 
--- src/lib.rt:213:26
 enum-known-first : tie.Need-enum-known-first
 enum-known-first c = search laws depth 9
 
--- src/lib.rt:213:64
 add-table-at : tie.Need-add-table-at
 add-table-at c = search laws depth 9
 
--- src/lib.rt:213:42
 table-at-requires-2 : tie.Need-table-at-requires-2
 table-at-requires-2 c κs = search laws depth 9
 
--- src/lib.rt:214:34
 enum-known-r-2 : tie.Need-enum-known-r-2
 enum-known-r-2 c = search laws depth 9
 
--- src/lib.rt:215:30
 enum-known-second : tie.Need-enum-known-second
 enum-known-second c = search laws depth 9
 
--- src/lib.rt:215:69
 add-table-at-2 : tie.Need-add-table-at-2
 add-table-at-2 c = search laws depth 9
 
--- src/lib.rt:215:47
 table-at-requires-3 : tie.Need-table-at-requires-3
 table-at-requires-3 c κs = search laws depth 9
 
--- src/lib.rt:216:38
 enum-known-r-3 : tie.Need-enum-known-r-3
 enum-known-r-3 c = search laws depth 9
 
--- src/lib.rt:217:34
 enum-known-third : tie.Need-enum-known-third
 enum-known-third c = search laws depth 9
 
--- src/lib.rt:208:1
 returns : tie.Need-returns
 unfolding threeAt
 returns c = search laws depth 9
 
--- src/lib.rt:208:1
 returns-2 : tie.Need-returns-2
 unfolding threeAt
 returns-2 c = search laws depth 9
 
--- src/lib.rt:208:1
 returns-3 : tie.Need-returns-3
 unfolding threeAt
 returns-3 c = search laws depth 9
 
--- src/lib.rt:208:1
 returns-4 : tie.Need-returns-4
 unfolding threeAt
 returns-4 c = search laws depth 9

@@ -6,43 +6,34 @@ use Rattle.header.proofs.version_at.Reads as reads
 use Rattle.header.proofs.version_at.Lts as lts
 use Rattle.header.proofs.is_four.Reads as is-four-reads
 
--- src/lib.rt:136:8
 is-four-requires : tie.Need-is-four-requires
 is-four-requires c κs = search laws depth 7
 
--- src/lib.rt:137:9
 returns : tie.Need-returns
 unfolding versionAt
 returns c = search laws depth 7
 
--- src/lib.rt:139:8
 is-four-requires-2 : tie.Need-is-four-requires-2
 is-four-requires-2 c κs = search laws depth 7
 
--- src/lib.rt:140:9
 returns-2 : tie.Need-returns-2
 unfolding versionAt
 returns-2 c = search laws depth 7
 
--- src/lib.rt:142:8
 is-four-requires-3 : tie.Need-is-four-requires-3
 is-four-requires-3 c κs = search laws depth 7
 
--- src/lib.rt:143:9
 returns-3 : tie.Need-returns-3
 unfolding versionAt
 returns-3 c = search laws depth 7
 
--- src/lib.rt:145:8
 is-four-requires-4 : tie.Need-is-four-requires-4
 is-four-requires-4 c κs = search laws depth 7
 
--- src/lib.rt:146:9
 returns-4 : tie.Need-returns-4
 unfolding versionAt
 returns-4 c = search laws depth 7
 
--- src/lib.rt:133:1
 returns-5 : tie.Need-returns-5
 unfolding versionAt
 returns-5 c = search laws depth 7

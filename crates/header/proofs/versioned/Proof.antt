@@ -7,35 +7,27 @@ use Rattle.header.proofs.body_at.Reads as body-at-reads
 use Rattle.header.proofs.order_at.Reads as order-at-reads
 use Rattle.header.proofs.version_at.Reads as version-at-reads
 
--- src/lib.rt:341:9
 version-at-requires : tie.Need-version-at-requires
 version-at-requires c κs = search laws
 
--- src/lib.rt:343:22
 order-at-requires : tie.Need-order-at-requires
 order-at-requires c κs = search laws
 
--- src/lib.rt:344:34
 enum-known-r : tie.Need-enum-known-r
 enum-known-r c = search laws
 
--- src/lib.rt:345:30
 enum-known-order : tie.Need-enum-known-order
 enum-known-order c = search laws
 
--- src/lib.rt:345:40
 body-at-requires : tie.Need-body-at-requires
 body-at-requires c κs = search laws
 
--- src/lib.rt:343:9
 returns : tie.Need-returns
 returns c = search laws
 
--- src/lib.rt:343:9
 returns-2 : tie.Need-returns-2
 returns-2 c = search laws
 
--- src/lib.rt:338:1
 returns-3 : tie.Need-returns-3
 returns-3 c = search laws
 

@@ -6,58 +6,45 @@ use Rattle.ids.proofs.check_member.Lts as lts
 use Rattle.word.proofs.u16_at.Reads as u16-at-reads
 use Rattle.word.proofs.u32_at.Reads as u32-at-reads
 
--- src/lib.rt:93:35
 mul-place : tie.Need-mul-place
 mul-place c = search laws depth 7
 
--- src/lib.rt:93:17
 add-place : tie.Need-add-place
 add-place c = search laws depth 7
 
--- src/lib.rt:94:17
 u16-at-requires : tie.Need-u16-at-requires
 u16-at-requires c κs = search laws depth 7
 
--- src/lib.rt:94:17
 cast-class : tie.Need-cast-class
 cast-class c = search laws depth 7
 
--- src/lib.rt:95:32
 add-u16-at : tie.Need-add-u16-at
 add-u16-at c = search laws depth 7
 
--- src/lib.rt:95:16
 u16-at-requires-2 : tie.Need-u16-at-requires-2
 u16-at-requires-2 c κs = search laws depth 7
 
--- src/lib.rt:95:16
 cast-kind : tie.Need-cast-kind
 cast-kind c = search laws depth 7
 
--- src/lib.rt:96:32
 add-u32-at : tie.Need-add-u32-at
 add-u32-at c = search laws depth 7
 
--- src/lib.rt:96:9
 u32-at-requires : tie.Need-u32-at-requires
 u32-at-requires c κs = search laws depth 7
 
--- src/lib.rt:98:9
 returns : tie.Need-returns
 unfolding judged
 returns c = search laws depth 7
 
--- src/lib.rt:101:9
 returns-2 : tie.Need-returns-2
 unfolding judged
 returns-2 c = search laws depth 7
 
--- src/lib.rt:104:9
 returns-3 : tie.Need-returns-3
 unfolding judged
 returns-3 c = search laws depth 7
 
--- src/lib.rt:89:1
 returns-4 : tie.Need-returns-4
 unfolding judged
 returns-4 c = search laws depth 7

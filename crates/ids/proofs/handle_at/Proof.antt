@@ -6,55 +6,43 @@ use Rattle.ids.proofs.handle_at.Reads as reads
 use Rattle.ids.proofs.handle_at.Lts as lts
 use Rattle.word.proofs.u16_at.Reads as u16-at-reads
 
--- src/lib.rt:112:35
 mul-place : tie.Need-mul-place
 mul-place c = search laws depth 7
 
--- src/lib.rt:112:17
 add-place : tie.Need-add-place
 add-place c = search laws depth 7
 
--- src/lib.rt:113:16
 u16-at-requires : tie.Need-u16-at-requires
 u16-at-requires c κs = search laws depth 7
 
--- src/lib.rt:113:16
 cast-kind : tie.Need-cast-kind
 cast-kind c = search laws depth 7
 
--- src/lib.rt:114:34
 add-u16-at : tie.Need-add-u16-at
 add-u16-at c = search laws depth 7
 
--- src/lib.rt:114:18
 u16-at-requires-2 : tie.Need-u16-at-requires-2
 u16-at-requires-2 c κs = search laws depth 7
 
--- src/lib.rt:114:18
 cast-number : tie.Need-cast-number
 cast-number c = search laws depth 7
 
--- src/lib.rt:116:9
 returns : tie.Need-returns
 unfolding handleOf
 returns c = search laws depth 7
 
--- src/lib.rt:120:13
 returns-2 : tie.Need-returns-2
 unfolding handleOf
 returns-2 c = search laws depth 7
 
--- src/lib.rt:122:9
 returns-3 : tie.Need-returns-3
 unfolding handleOf
 returns-3 c = search laws depth 7
 
--- src/lib.rt:125:9
 returns-4 : tie.Need-returns-4
 unfolding handleOf
 returns-4 c = search laws depth 7
 
--- src/lib.rt:108:1
 returns-5 : tie.Need-returns-5
 unfolding handleOf
 returns-5 c = search laws depth 7

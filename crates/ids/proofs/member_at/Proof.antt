@@ -7,59 +7,45 @@ use Rattle.ids.proofs.check_member.Reads as check-member-reads
 use Rattle.word.proofs.u16_at.Reads as u16-at-reads
 use Rattle.word.proofs.u32_at.Reads as u32-at-reads
 
--- src/lib.rt:114:35
 mul-place : tie.Need-mul-place
 mul-place c = search laws
 
--- src/lib.rt:114:17
 add-place : tie.Need-add-place
 add-place c = search laws
 
--- src/lib.rt:115:11
 check-member-requires : tie.Need-check-member-requires
 check-member-requires c κs = search laws
 
--- src/lib.rt:116:26
 enum-known-a : tie.Need-enum-known-a
 enum-known-a c = search laws
 
--- src/lib.rt:118:20
 enum-told : tie.Need-enum-told
 enum-told c = search laws
 
--- src/lib.rt:118:20
 u16-at-requires : tie.Need-u16-at-requires
 u16-at-requires c κs = search laws
 
--- src/lib.rt:118:20
 cast-t15 : tie.Need-cast-t15
 cast-t15 c = search laws
 
--- src/lib.rt:119:35
 add-u16-at : tie.Need-add-u16-at
 add-u16-at c = search laws
 
--- src/lib.rt:119:19
 u16-at-requires-2 : tie.Need-u16-at-requires-2
 u16-at-requires-2 c κs = search laws
 
--- src/lib.rt:119:19
 cast-t18 : tie.Need-cast-t18
 cast-t18 c = search laws
 
--- src/lib.rt:120:35
 add-u32-at : tie.Need-add-u32-at
 add-u32-at c = search laws
 
--- src/lib.rt:120:19
 u32-at-requires : tie.Need-u32-at-requires
 u32-at-requires c κs = search laws
 
--- src/lib.rt:110:1
 returns : tie.Need-returns
 returns c = search laws
 
--- src/lib.rt:110:1
 returns-2 : tie.Need-returns-2
 returns-2 c = search laws
 

@@ -7,58 +7,45 @@ use Rattle.ids.proofs.proto_at.Lts as lts
 use Rattle.frame.proofs.is_allowed_or_absent.Reads as is-allowed-or-absent-reads
 use Rattle.word.proofs.u32_at.Reads as u32-at-reads
 
--- src/lib.rt:66:35
 mul-place : tie.Need-mul-place
 mul-place c = search laws depth 7
 
--- src/lib.rt:66:17
 add-place : tie.Need-add-place
 add-place c = search laws depth 7
 
--- src/lib.rt:67:9
 u32-at-requires : tie.Need-u32-at-requires
 u32-at-requires c κs = search laws depth 7
 
--- src/lib.rt:68:39
 add-u32-at : tie.Need-add-u32-at
 add-u32-at c = search laws depth 7
 
--- src/lib.rt:68:9
 u32-at-requires-2 : tie.Need-u32-at-requires-2
 u32-at-requires-2 c κs = search laws depth 7
 
--- src/lib.rt:69:38
 add-u32-at-2 : tie.Need-add-u32-at-2
 add-u32-at-2 c = search laws depth 7
 
--- src/lib.rt:69:9
 u32-at-requires-3 : tie.Need-u32-at-requires-3
 u32-at-requires-3 c κs = search laws depth 7
 
--- src/lib.rt:71:9
 returns : tie.Need-returns
 unfolding protoOf
 returns c = search laws depth 7
 
--- src/lib.rt:74:9
 returns-2 : tie.Need-returns-2
 unfolding protoOf
 returns-2 c = search laws depth 7
 
--- src/lib.rt:76:56
 cast-is-allowed-or-absent : tie.Need-cast-is-allowed-or-absent
 cast-is-allowed-or-absent c = search laws depth 7
 
--- src/lib.rt:76:8
 is-allowed-or-absent-requires : tie.Need-is-allowed-or-absent-requires
 is-allowed-or-absent-requires c κs = search laws depth 7
 
--- src/lib.rt:77:9
 returns-3 : tie.Need-returns-3
 unfolding protoOf
 returns-3 c = search laws depth 7
 
--- src/lib.rt:62:1
 returns-4 : tie.Need-returns-4
 unfolding protoOf
 returns-4 c = search laws depth 7

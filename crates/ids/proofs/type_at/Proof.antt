@@ -6,24 +6,19 @@ use Rattle.ids.proofs.type_at.Reads as reads
 use Rattle.ids.proofs.type_at.Lts as lts
 use Rattle.word.proofs.u32_at.Reads as u32-at-reads
 
--- src/lib.rt:53:35
 mul-place : tie.Need-mul-place
 mul-place c = search laws
 
--- src/lib.rt:53:17
 add-place : tie.Need-add-place
 add-place c = search laws
 
--- src/lib.rt:54:9
 u32-at-requires : tie.Need-u32-at-requires
 u32-at-requires c κs = search laws
 
--- src/lib.rt:56:9
 returns : tie.Need-returns
 unfolding typeOf
 returns c = search laws
 
--- src/lib.rt:49:1
 returns-2 : tie.Need-returns-2
 unfolding typeOf
 returns-2 c = search laws

@@ -5,47 +5,36 @@ use Rattle.leb128.proofs.uleb.Reads as reads
 use Rattle.leb128.proofs.uleb.Lts as lts
 use Rattle.leb128.proofs.weigh.Reads as weigh-reads
 
--- src/lib.rt:70:20
 shared-slice-read-only : tie.Need-shared-slice-read-only
 shared-slice-read-only c = search laws
 
--- src/lib.rt:73:24
 cast-t13 : tie.Need-cast-t13
 cast-t13 c = search laws
 
--- src/lib.rt:74:23
 add-t14 : tie.Need-add-t14
 add-t14 c = search laws
 
--- src/lib.rt:72:13
 returns : tie.Need-returns
 returns c = search laws
 
--- src/lib.rt:78:11
 weigh-requires : tie.Need-weigh-requires
 weigh-requires c κs = search laws
 
--- src/lib.rt:79:26
 enum-known-r : tie.Need-enum-known-r
 enum-known-r c = search laws
 
--- src/lib.rt:81:13
 enum-known-value : tie.Need-enum-known-value
 enum-known-value c = search laws
 
--- src/lib.rt:87:28
 cast-t18 : tie.Need-cast-t18
 cast-t18 c = search laws
 
--- src/lib.rt:86:17
 returns-2 : tie.Need-returns-2
 returns-2 c = search laws
 
--- src/lib.rt:66:1
 returns-3 : tie.Need-returns-3
 returns-3 c = search laws
 
--- src/lib.rt:66:1
 returns-4 : tie.Need-returns-4
 returns-4 c = search laws
 

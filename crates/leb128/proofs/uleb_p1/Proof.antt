@@ -6,33 +6,26 @@ use Rattle.leb128.proofs.uleb_p1.Reads as reads
 use Rattle.leb128.proofs.uleb_p1.Lts as lts
 use Rattle.leb128.proofs.uleb.Reads as uleb-reads
 
--- src/lib.rt:129:11
 uleb-requires : tie.Need-uleb-requires
 uleb-requires c κs = search laws
 
--- src/lib.rt:130:22
 enum-known-r : tie.Need-enum-known-r
 enum-known-r c = search laws
 
--- src/lib.rt:131:20
 enum-known-value : tie.Need-enum-known-value
 enum-known-value c = search laws
 
--- src/lib.rt:134:28
 sub-t10 : tie.Need-sub-t10
 sub-t10 c = search laws
 
--- src/lib.rt:133:17
 returns : tie.Need-returns
 unfolding plusOneAt
 returns c = search laws
 
--- src/lib.rt:126:1
 returns-2 : tie.Need-returns-2
 unfolding plusOneAt
 returns-2 c = search laws
 
--- src/lib.rt:126:1
 returns-3 : tie.Need-returns-3
 unfolding plusOneAt
 returns-3 c = search laws

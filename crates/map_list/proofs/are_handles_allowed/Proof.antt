@@ -4,23 +4,18 @@ use Rattle.map_list.proofs.are_handles_allowed.Tie as tie
 use Rattle.map_list.proofs.are_handles_allowed.Reads as reads
 use Rattle.map_list.proofs.are_handles_allowed.Lts as lts
 
--- src/lib.rt:105:9
 returns : tie.Need-returns
 returns c = search laws
 
--- src/lib.rt:108:9
 returns-2 : tie.Need-returns-2
 returns-2 c = search laws
 
--- src/lib.rt:110:23
 mul-result : tie.Need-mul-result
 mul-result c = search laws
 
--- src/lib.rt:110:5
 add-result : tie.Need-add-result
 add-result c = search laws
 
--- src/lib.rt:101:1
 returns-3 : tie.Need-returns-3
 returns-3 c = search laws
 

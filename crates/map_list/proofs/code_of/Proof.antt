@@ -12,37 +12,29 @@ Inv-loop kind i₀ i = Searching kind i
 abbrev μ-loop : tie.MeasureT-loop
 μ-loop kind i₀ i = 21 - i
 
--- src/lib.rt:73:5
 loop-holds : tie.Need-loop-holds Inv-loop μ-loop
 loop-holds c = search laws
 
--- src/lib.rt:74:12
 mul-if1 : tie.Need-mul-if1 Inv-loop μ-loop
 mul-if1 c = search laws
 
--- src/lib.rt:74:12
 array-read-if1 : tie.Need-array-read-if1 Inv-loop μ-loop
 array-read-if1 c = search laws
 
--- src/lib.rt:75:13
 returns : tie.Need-returns Inv-loop μ-loop
 unfolding codes
 returns c = search laws
 
--- src/lib.rt:77:9
 add-i : tie.Need-add-i Inv-loop μ-loop
 add-i c = search laws
 
--- src/lib.rt:73:5
 loop-less : tie.Need-loop-less Inv-loop μ-loop
 loop-less c = search laws
 
--- src/lib.rt:73:5
 loop-again : tie.Need-loop-again Inv-loop μ-loop
 unfolding codes
 loop-again c = search laws
 
--- src/lib.rt:69:1
 returns-2 : tie.Need-returns-2 Inv-loop μ-loop
 unfolding codes
 returns-2 c = search laws

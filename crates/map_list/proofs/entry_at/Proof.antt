@@ -6,31 +6,24 @@ use Rattle.map_list.proofs.entry_at.Lts as lts
 use Rattle.word.proofs.u16_at.Reads as u16-at-reads
 use Rattle.word.proofs.u32_at.Reads as u32-at-reads
 
--- src/lib.rt:87:9
 returns : tie.Need-returns
 returns c = search laws
 
--- src/lib.rt:94:15
 u16-at-requires : tie.Need-u16-at-requires
 u16-at-requires c κs = search laws
 
--- src/lib.rt:95:31
 add-u32-at : tie.Need-add-u32-at
 add-u32-at c = search laws
 
--- src/lib.rt:95:15
 u32-at-requires : tie.Need-u32-at-requires
 u32-at-requires c κs = search laws
 
--- src/lib.rt:96:33
 add-u32-at-2 : tie.Need-add-u32-at-2
 add-u32-at-2 c = search laws
 
--- src/lib.rt:96:17
 u32-at-requires-2 : tie.Need-u32-at-requires-2
 u32-at-requires-2 c κs = search laws
 
--- src/lib.rt:83:1
 returns-2 : tie.Need-returns-2
 returns-2 c = search laws
 

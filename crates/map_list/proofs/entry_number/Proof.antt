@@ -6,31 +6,24 @@ use Rattle.map_list.proofs.entry_number.Lts as lts
 use Rattle.header.proofs.section_of.Reads as section-of-reads
 use Rattle.map_list.proofs.entry_at.Reads as entry-at-reads
 
--- src/lib.rt:106:9
 section-of-requires : tie.Need-section-of-requires
 section-of-requires c κs = search laws
 
--- src/lib.rt:108:9
 returns : tie.Need-returns
 returns c = search laws
 
--- src/lib.rt:114:24
 add-entry-at : tie.Need-add-entry-at
 add-entry-at c = search laws
 
--- src/lib.rt:114:34
 mul-entry-at : tie.Need-mul-entry-at
 mul-entry-at c = search laws
 
--- src/lib.rt:114:24
 add-entry-at-2 : tie.Need-add-entry-at-2
 add-entry-at-2 c = search laws
 
--- src/lib.rt:114:5
 entry-at-requires : tie.Need-entry-at-requires
 entry-at-requires c κs = search laws
 
--- src/lib.rt:101:1
 returns-2 : tie.Need-returns-2
 returns-2 c = search laws
 

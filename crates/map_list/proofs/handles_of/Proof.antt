@@ -4,11 +4,9 @@ use Rattle.map_list.proofs.handles_of.Tie as tie
 use Rattle.map_list.proofs.handles_of.Reads as reads
 use Rattle.map_list.proofs.handles_of.Lts as lts
 
--- src/lib.rt:167:9
 returns : tie.Need-returns
 returns c = search laws
 
--- src/lib.rt:162:1
 returns-2 : tie.Need-returns-2
 returns-2 c = search laws
 

@@ -5,23 +5,18 @@ use Rattle.map_list.proofs.is_entry_allowed.Reads as reads
 use Rattle.map_list.proofs.is_entry_allowed.Lts as lts
 use Rattle.map_list.proofs.are_handles_allowed.Reads as are-handles-allowed-reads
 
--- src/lib.rt:119:9
 returns : tie.Need-returns
 returns c = search laws
 
--- src/lib.rt:123:13
 returns-2 : tie.Need-returns-2
 returns-2 c = search laws
 
--- src/lib.rt:125:9
 are-handles-allowed-requires : tie.Need-are-handles-allowed-requires
 are-handles-allowed-requires c κs = search laws
 
--- src/lib.rt:125:9
 returns-3 : tie.Need-returns-3
 returns-3 c = search laws
 
--- src/lib.rt:114:1
 returns-4 : tie.Need-returns-4
 returns-4 c = search laws
 

@@ -5,23 +5,18 @@ use Rattle.map_list.proofs.is_next_allowed.Reads as reads
 use Rattle.map_list.proofs.is_next_allowed.Lts as lts
 use Rattle.map_list.proofs.is_entry_allowed.Reads as is-entry-allowed-reads
 
--- src/lib.rt:134:18
 cast-offset : tie.Need-cast-offset
 cast-offset c = search laws
 
--- src/lib.rt:136:9
 returns : tie.Need-returns
 returns c = search laws
 
--- src/lib.rt:139:9
 returns-2 : tie.Need-returns-2
 returns-2 c = search laws
 
--- src/lib.rt:141:5
 is-entry-allowed-requires : tie.Need-is-entry-allowed-requires
 is-entry-allowed-requires c κs = search laws
 
--- src/lib.rt:131:1
 returns-3 : tie.Need-returns-3
 returns-3 c = search laws
 

@@ -6,63 +6,48 @@ use Rattle.map_list.proofs.list_at.Lts as lts
 use Rattle.map_list.proofs.scan.Reads as scan-reads
 use Rattle.word.proofs.u32_at.Reads as u32-at-reads
 
--- src/lib.rt:204:9
 returns : tie.Need-returns
 returns c = search laws
 
--- src/lib.rt:209:8
 sub-if2 : tie.Need-sub-if2
 sub-if2 c = search laws
 
--- src/lib.rt:210:9
 returns-2 : tie.Need-returns-2
 returns-2 c = search laws
 
--- src/lib.rt:215:9
 u32-at-requires : tie.Need-u32-at-requires
 u32-at-requires c κs = search laws
 
--- src/lib.rt:216:8
 sub-if3 : tie.Need-sub-if3
 sub-if3 c = search laws
 
--- src/lib.rt:216:8
 sub-if3-2 : tie.Need-sub-if3-2
 sub-if3-2 c = search laws
 
--- src/lib.rt:216:32
 cast-if3 : tie.Need-cast-if3
 cast-if3 c = search laws
 
--- src/lib.rt:216:27
 mul-if3 : tie.Need-mul-if3
 mul-if3 c = search laws
 
--- src/lib.rt:217:9
 returns-3 : tie.Need-returns-3
 returns-3 c = search laws
 
--- src/lib.rt:222:22
 add-scan : tie.Need-add-scan
 add-scan c = search laws
 
--- src/lib.rt:222:11
 scan-requires : tie.Need-scan-requires
 scan-requires c κs = search laws
 
--- src/lib.rt:223:32
 enum-known-r : tie.Need-enum-known-r
 enum-known-r c = search laws
 
--- src/lib.rt:224:28
 enum-known-handles : tie.Need-enum-known-handles
 enum-known-handles c = search laws
 
--- src/lib.rt:198:1
 returns-4 : tie.Need-returns-4
 returns-4 c = search laws
 
--- src/lib.rt:198:1
 returns-5 : tie.Need-returns-5
 returns-5 c = search laws
 

@@ -7,23 +7,18 @@ use Rattle.frame.proofs.is_allowed.Reads as is-allowed-reads
 use Rattle.header.proofs.section_of.Reads as section-of-reads
 use Rattle.map_list.proofs.list_at.Reads as list-at-reads
 
--- src/lib.rt:233:9
 section-of-requires : tie.Need-section-of-requires
 section-of-requires c κs = search laws
 
--- src/lib.rt:234:8
 is-allowed-requires : tie.Need-is-allowed-requires
 is-allowed-requires c κs = search laws
 
--- src/lib.rt:235:9
 list-at-requires : tie.Need-list-at-requires
 list-at-requires c κs = search laws
 
--- src/lib.rt:235:9
 returns : tie.Need-returns
 returns c = search laws
 
--- src/lib.rt:229:1
 returns-2 : tie.Need-returns-2
 returns-2 c = search laws
 

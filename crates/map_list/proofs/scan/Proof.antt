@@ -16,67 +16,51 @@ Inv-loop s j from count order seen₀ handles₀ place₀ floor₀ left₀ seen 
 abbrev μ-loop : tie.MeasureT-loop
 μ-loop s j from count order seen₀ handles₀ place₀ floor₀ left₀ seen handles place floor left = left
 
--- src/lib.rt:172:5
 loop-holds : tie.Need-loop-holds Inv-loop μ-loop
 loop-holds c = search laws
 
--- src/lib.rt:173:13
 entry-at-requires : tie.Need-entry-at-requires Inv-loop μ-loop
 entry-at-requires c κs = search laws
 
--- src/lib.rt:174:13
 code-of-requires : tie.Need-code-of-requires Inv-loop μ-loop
 code-of-requires c κs = search laws
 
--- src/lib.rt:176:13
 returns : tie.Need-returns Inv-loop μ-loop
 returns c = search laws
 
--- src/lib.rt:181:41
 array-read-is-next-allowed : tie.Need-array-read-is-next-allowed Inv-loop μ-loop
 array-read-is-next-allowed c = search laws
 
--- src/lib.rt:181:12
 is-next-allowed-requires : tie.Need-is-next-allowed-requires Inv-loop μ-loop
 is-next-allowed-requires c κs = search laws
 
--- src/lib.rt:182:13
 array-write-seen : tie.Need-array-write-seen Inv-loop μ-loop
 array-write-seen c = search laws
 
--- src/lib.rt:183:13
 handles-of-requires : tie.Need-handles-of-requires Inv-loop μ-loop
 handles-of-requires c κs = search laws
 
--- src/lib.rt:184:21
 cast-floor : tie.Need-cast-floor Inv-loop μ-loop
 cast-floor c = search laws
 
--- src/lib.rt:184:21
 add-floor : tie.Need-add-floor Inv-loop μ-loop
 add-floor c = search laws
 
--- src/lib.rt:186:13
 returns-2 : tie.Need-returns-2 Inv-loop μ-loop
 returns-2 c = search laws
 
--- src/lib.rt:191:9
 add-place : tie.Need-add-place Inv-loop μ-loop
 add-place c = search laws
 
--- src/lib.rt:192:9
 sub-left : tie.Need-sub-left Inv-loop μ-loop
 sub-left c = search laws
 
--- src/lib.rt:172:5
 loop-less : tie.Need-loop-less Inv-loop μ-loop
 loop-less c = search laws
 
--- src/lib.rt:172:5
 loop-again : tie.Need-loop-again Inv-loop μ-loop
 loop-again c = search laws
 
--- src/lib.rt:159:1
 returns-3 : tie.Need-returns-3 Inv-loop μ-loop
 returns-3 c = search laws
 

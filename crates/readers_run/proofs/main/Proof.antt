@@ -13,43 +13,33 @@ Inv-loop left₀ left = Unit
 abbrev μ-loop : tie.MeasureT-loop
 μ-loop left₀ left = left
 
--- src/main.rt:39:22
 slice-aggregate-read-full : tie.Need-slice-aggregate-read-full Inv-loop μ-loop
 slice-aggregate-read-full c = search laws
 
--- src/main.rt:39:5
 read-full-requires : tie.Need-read-full-requires Inv-loop μ-loop
 read-full-requires c κs = search laws
 
--- src/main.rt:40:33
 slice-aggregate-u32-at : tie.Need-slice-aggregate-u32-at Inv-loop μ-loop
 slice-aggregate-u32-at c = search laws
 
--- src/main.rt:40:9
 u32-at-requires : tie.Need-u32-at-requires Inv-loop μ-loop
 u32-at-requires c κs = search laws
 
--- src/main.rt:41:5
 loop-holds : tie.Need-loop-holds Inv-loop μ-loop
 loop-holds c = search laws
 
--- src/main.rt:42:9
 one-file-requires : tie.Need-one-file-requires Inv-loop μ-loop
 one-file-requires c κs = search laws
 
--- src/main.rt:43:9
 sub-left : tie.Need-sub-left Inv-loop μ-loop
 sub-left c = search laws
 
--- src/main.rt:41:5
 loop-less : tie.Need-loop-less Inv-loop μ-loop
 loop-less c = search laws
 
--- src/main.rt:41:5
 loop-again : tie.Need-loop-again Inv-loop μ-loop
 loop-again c = search laws
 
--- src/main.rt:37:1
 returns : tie.Need-returns Inv-loop μ-loop
 returns c = search laws
 

@@ -6,31 +6,24 @@ use Rattle.readers_run.proofs.rest_of.Lts as lts
 use Rattle.io.proofs.read_full.Reads as read-full-reads
 use Rattle.readers_run.proofs.questions.about.Reads as about-reads
 
--- src/main.rt:19:9
 returns : tie.Need-returns
 returns c = search laws
 
--- src/main.rt:21:22
 slice-relend-prefix-read-full : tie.Need-slice-relend-prefix-read-full
 slice-relend-prefix-read-full c = search laws
 
--- src/main.rt:21:22
 slice-aggregate-read-full : tie.Need-slice-aggregate-read-full
 slice-aggregate-read-full c = search laws
 
--- src/main.rt:21:5
 read-full-requires : tie.Need-read-full-requires
 read-full-requires c κs = search laws
 
--- src/main.rt:22:5
 about-requires : tie.Need-about-requires
 about-requires c κs = search laws
 
--- src/main.rt:17:1
 same-length : tie.Need-same-length
 same-length c = search laws
 
--- src/main.rt:17:1
 returns-2 : tie.Need-returns-2
 returns-2 c = search laws
 

@@ -6,35 +6,27 @@ use Rattle.report.proofs.accepted_into.Lts as lts
 use Rattle.report.proofs.put_accepted.Reads as put-accepted-reads
 use Rattle.report.proofs.text_into.Reads as text-into-reads
 
--- src/lib.rt:172:29
 slice-aggregate-put-accepted : tie.Need-slice-aggregate-put-accepted
 slice-aggregate-put-accepted c = search laws
 
--- src/lib.rt:172:9
 put-accepted-requires : tie.Need-put-accepted-requires
 put-accepted-requires c κs = search laws
 
--- src/lib.rt:173:15
 sub-text-into : tie.Need-sub-text-into
 sub-text-into c = search laws
 
--- src/lib.rt:173:15
 part-text-into-start : tie.Need-part-text-into-start
 part-text-into-start c = search laws
 
--- src/lib.rt:173:15
 part-text-into-end : tie.Need-part-text-into-end
 part-text-into-end c = search laws
 
--- src/lib.rt:173:5
 text-into-requires : tie.Need-text-into-requires
 text-into-requires c κs = search laws
 
--- src/lib.rt:167:1
 same-length : tie.Need-same-length
 same-length c = search laws
 
--- src/lib.rt:167:1
 returns : tie.Need-returns
 returns c = search laws
 

@@ -12,39 +12,30 @@ Inv-loop text out₀ at i₀ p₀ out i p = Copying text at out₀ out i p
 abbrev μ-loop : tie.MeasureT-loop
 μ-loop text out₀ at i₀ p₀ out i p = length text - i
 
--- src/lib.rt:36:5
 loop-holds : tie.Need-loop-holds Inv-loop μ-loop
 loop-holds c = search laws
 
--- src/lib.rt:37:18
 shared-slice-read-out : tie.Need-shared-slice-read-out Inv-loop μ-loop
 shared-slice-read-out c = search laws
 
--- src/lib.rt:37:9
 slice-write-out : tie.Need-slice-write-out Inv-loop μ-loop
 slice-write-out c = search laws
 
--- src/lib.rt:38:9
 add-i : tie.Need-add-i Inv-loop μ-loop
 add-i c = search laws
 
--- src/lib.rt:39:9
 add-p : tie.Need-add-p Inv-loop μ-loop
 add-p c = search laws
 
--- src/lib.rt:36:5
 loop-less : tie.Need-loop-less Inv-loop μ-loop
 loop-less c = search laws
 
--- src/lib.rt:36:5
 loop-again : tie.Need-loop-again Inv-loop μ-loop
 loop-again c = search laws
 
--- src/lib.rt:30:1
 same-length : tie.Need-same-length Inv-loop μ-loop
 same-length c = search laws
 
--- src/lib.rt:30:1
 returns : tie.Need-returns Inv-loop μ-loop
 returns c = search laws
 

@@ -8,23 +8,18 @@ use Rattle.report.proofs.put_members.Reads as put-members-reads
 use Rattle.report.proofs.put_names.Reads as put-names-reads
 use Rattle.report.proofs.put_top.Reads as put-top-reads
 
--- src/lib.rt:156:9
 put-top-requires : tie.Need-put-top-requires
 put-top-requires c κs = search laws
 
--- src/lib.rt:157:9
 put-names-requires : tie.Need-put-names-requires
 put-names-requires c κs = search laws
 
--- src/lib.rt:158:5
 put-members-requires : tie.Need-put-members-requires
 put-members-requires c κs = search laws
 
--- src/lib.rt:151:1
 same-length : tie.Need-same-length
 same-length c = search laws
 
--- src/lib.rt:151:1
 returns : tie.Need-returns
 unfolding accepted-lines
 returns c = search laws

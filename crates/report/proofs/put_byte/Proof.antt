@@ -4,19 +4,15 @@ use Rattle.report.proofs.put_byte.Tie as tie
 use Rattle.report.proofs.put_byte.Reads as reads
 use Rattle.report.proofs.put_byte.Lts as lts
 
--- src/lib.rt:25:5
 slice-write-out : tie.Need-slice-write-out
 slice-write-out c = search laws
 
--- src/lib.rt:26:5
 add-result : tie.Need-add-result
 add-result c = search laws
 
--- src/lib.rt:21:1
 same-length : tie.Need-same-length
 same-length c = search laws
 
--- src/lib.rt:21:1
 returns : tie.Need-returns
 returns c = search laws
 

@@ -6,19 +6,15 @@ use Rattle.report.proofs.put_name.Lts as lts
 use Rattle.report.proofs.put.Reads as put-reads
 use Rattle.report.proofs.put_byte.Reads as put-byte-reads
 
--- src/lib.rt:61:9
 put-requires : tie.Need-put-requires
 put-requires c κs = search laws
 
--- src/lib.rt:62:5
 put-byte-requires : tie.Need-put-byte-requires
 put-byte-requires c κs = search laws
 
--- src/lib.rt:57:1
 same-length : tie.Need-same-length
 same-length c = search laws
 
--- src/lib.rt:57:1
 returns : tie.Need-returns
 returns c = search laws
 

@@ -7,23 +7,18 @@ use Rattle.report.proofs.put_byte.Reads as put-byte-reads
 use Rattle.report.proofs.put_digits.Reads as put-digits-reads
 use Rattle.report.proofs.put_name.Reads as put-name-reads
 
--- src/lib.rt:82:9
 put-name-requires : tie.Need-put-name-requires
 put-name-requires c κs = search laws
 
--- src/lib.rt:83:9
 put-digits-requires : tie.Need-put-digits-requires
 put-digits-requires c κs = search laws
 
--- src/lib.rt:84:5
 put-byte-requires : tie.Need-put-byte-requires
 put-byte-requires c κs = search laws
 
--- src/lib.rt:78:1
 same-length : tie.Need-same-length
 same-length c = search laws
 
--- src/lib.rt:78:1
 returns : tie.Need-returns
 returns c = search laws
 

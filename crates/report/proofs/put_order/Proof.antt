@@ -5,51 +5,39 @@ use Rattle.report.proofs.put_order.Reads as reads
 use Rattle.report.proofs.put_order.Lts as lts
 use Rattle.report.proofs.put_word.Reads as put-word-reads
 
--- src/lib.rt:91:36
 enum-told : tie.Need-enum-told
 enum-told c = search laws
 
--- src/lib.rt:91:36
 slice-aggregate-put-word : tie.Need-slice-aggregate-put-word
 slice-aggregate-put-word c = search laws
 
--- src/lib.rt:91:47
 slice-aggregate-put-word-2 : tie.Need-slice-aggregate-put-word-2
 slice-aggregate-put-word-2 c = search laws
 
--- src/lib.rt:91:27
 put-word-requires : tie.Need-put-word-requires
 put-word-requires c κs = search laws
 
--- src/lib.rt:92:33
 enum-told-2 : tie.Need-enum-told-2
 enum-told-2 c = search laws
 
--- src/lib.rt:92:33
 slice-aggregate-put-word-3 : tie.Need-slice-aggregate-put-word-3
 slice-aggregate-put-word-3 c = search laws
 
--- src/lib.rt:92:44
 slice-aggregate-put-word-4 : tie.Need-slice-aggregate-put-word-4
 slice-aggregate-put-word-4 c = search laws
 
--- src/lib.rt:92:24
 put-word-requires-2 : tie.Need-put-word-requires-2
 put-word-requires-2 c κs = search laws
 
--- src/lib.rt:86:1
 same-length : tie.Need-same-length
 same-length c = search laws
 
--- src/lib.rt:86:1
 returns : tie.Need-returns
 returns c = search laws
 
--- src/lib.rt:86:1
 same-length-2 : tie.Need-same-length-2
 same-length-2 c = search laws
 
--- src/lib.rt:86:1
 returns-2 : tie.Need-returns-2
 returns-2 c = search laws
 

@@ -5,23 +5,18 @@ use Rattle.report.proofs.put_three.Reads as reads
 use Rattle.report.proofs.put_three.Lts as lts
 use Rattle.report.proofs.put_number.Reads as put-number-reads
 
--- src/lib.rt:101:9
 put-number-requires : tie.Need-put-number-requires
 put-number-requires c κs = search laws
 
--- src/lib.rt:102:9
 put-number-requires-2 : tie.Need-put-number-requires-2
 put-number-requires-2 c κs = search laws
 
--- src/lib.rt:103:5
 put-number-requires-3 : tie.Need-put-number-requires-3
 put-number-requires-3 c κs = search laws
 
--- src/lib.rt:97:1
 same-length : tie.Need-same-length
 same-length c = search laws
 
--- src/lib.rt:97:1
 returns : tie.Need-returns
 returns c = search laws
 

@@ -6,31 +6,24 @@ use Rattle.report.proofs.put_top.Lts as lts
 use Rattle.report.proofs.put_number.Reads as put-number-reads
 use Rattle.report.proofs.put_order.Reads as put-order-reads
 
--- src/lib.rt:111:24
 slice-aggregate-put-number : tie.Need-slice-aggregate-put-number
 slice-aggregate-put-number c = search laws
 
--- src/lib.rt:111:9
 put-number-requires : tie.Need-put-number-requires
 put-number-requires c κs = search laws
 
--- src/lib.rt:112:24
 slice-aggregate-put-number-2 : tie.Need-slice-aggregate-put-number-2
 slice-aggregate-put-number-2 c = search laws
 
--- src/lib.rt:112:9
 put-number-requires-2 : tie.Need-put-number-requires-2
 put-number-requires-2 c κs = search laws
 
--- src/lib.rt:113:5
 put-order-requires : tie.Need-put-order-requires
 put-order-requires c κs = search laws
 
--- src/lib.rt:107:1
 same-length : tie.Need-same-length
 same-length c = search laws
 
--- src/lib.rt:107:1
 returns : tie.Need-returns
 returns c = search laws
 

@@ -7,51 +7,39 @@ use Rattle.report.proofs.refused_into.Lts as lts
 use Rattle.report.proofs.put_three.Reads as put-three-reads
 use Rattle.report.proofs.text_into.Reads as text-into-reads
 
--- src/lib.rt:183:9
 slice-aggregate-put-three : tie.Need-slice-aggregate-put-three
 slice-aggregate-put-three c = search laws
 
--- src/lib.rt:185:9
 slice-aggregate-put-three-2 : tie.Need-slice-aggregate-put-three-2
 slice-aggregate-put-three-2 c = search laws
 
--- src/lib.rt:186:9
 cast-put-three : tie.Need-cast-put-three
 cast-put-three c = search laws
 
--- src/lib.rt:187:9
 slice-aggregate-put-three-3 : tie.Need-slice-aggregate-put-three-3
 slice-aggregate-put-three-3 c = search laws
 
--- src/lib.rt:189:9
 slice-aggregate-put-three-4 : tie.Need-slice-aggregate-put-three-4
 slice-aggregate-put-three-4 c = search laws
 
--- src/lib.rt:182:9
 put-three-requires : tie.Need-put-three-requires
 put-three-requires c κs = search laws
 
--- src/lib.rt:192:15
 sub-text-into : tie.Need-sub-text-into
 sub-text-into c = search laws
 
--- src/lib.rt:192:15
 part-text-into-start : tie.Need-part-text-into-start
 part-text-into-start c = search laws
 
--- src/lib.rt:192:15
 part-text-into-end : tie.Need-part-text-into-end
 part-text-into-end c = search laws
 
--- src/lib.rt:192:5
 text-into-requires : tie.Need-text-into-requires
 text-into-requires c κs = search laws
 
--- src/lib.rt:177:1
 same-length : tie.Need-same-length
 same-length c = search laws
 
--- src/lib.rt:177:1
 returns : tie.Need-returns
 unfolding refused-lines
 returns c = search laws

@@ -5,19 +5,15 @@ use Rattle.report.proofs.text_into.Reads as reads
 use Rattle.report.proofs.text_into.Lts as lts
 use Rattle.report.proofs.put.Reads as put-reads
 
--- src/lib.rt:178:9
 returns : tie.Need-returns
 returns c = search laws
 
--- src/lib.rt:183:5
 put-requires : tie.Need-put-requires
 put-requires c κs = search laws
 
--- src/lib.rt:173:1
 same-length : tie.Need-same-length
 same-length c = search laws
 
--- src/lib.rt:173:1
 returns-2 : tie.Need-returns-2
 returns-2 c = search laws
 

@@ -4,27 +4,21 @@ use Rattle.sign.proofs.magnitude_of.Tie as tie
 use Rattle.sign.proofs.magnitude_of.Reads as reads
 use Rattle.sign.proofs.magnitude_of.Lts as lts
 
--- src/lib.rt:9:19
 sub-low : tie.Need-sub-low
 sub-low c = search laws
 
--- src/lib.rt:10:16
 cast-result : tie.Need-cast-result
 cast-result c = down-nat _ (c .before .fits .size) (c .if1 .taken)
 
--- src/lib.rt:10:16
 add-result : tie.Need-add-result
 add-result c = search laws
 
--- src/lib.rt:10:9
 returns : tie.Need-returns
 returns c = search laws
 
--- src/lib.rt:12:5
 cast-result-2 : tie.Need-cast-result-2
 cast-result-2 c = pos-nat _ (c .before .fits .size) (c .if1 .left)
 
--- src/lib.rt:5:1
 returns-2 : tie.Need-returns-2
 returns-2 c = search laws
 

@@ -6,46 +6,36 @@ use Rattle.string_ids.proofs.found_with.Reads as reads
 use Rattle.string_ids.proofs.found_with.Lts as lts
 use Rattle.text_order.proofs.compare.Reads as compare-reads
 
--- src/lib.rt:91:23
 enum-known-found : tie.Need-enum-known-found
 enum-known-found c = search laws
 
--- src/lib.rt:92:33
 enum-told : tie.Need-enum-told
 enum-told c = search laws
 
--- src/lib.rt:92:33
 compare-requires : tie.Need-compare-requires
 compare-requires c κs = search laws
 
--- src/lib.rt:93:28
 enum-told-2 : tie.Need-enum-told-2
 enum-told-2 c = search laws
 
--- src/lib.rt:94:29
 enum-told-3 : tie.Need-enum-told-3
 enum-told-3 c = search laws
 
--- src/lib.rt:95:31
 enum-told-4 : tie.Need-enum-told-4
 enum-told-4 c = search laws
 
--- src/lib.rt:87:1
 returns : tie.Need-returns
 unfolding isEqual
 returns c = search laws
 
--- src/lib.rt:87:1
 returns-2 : tie.Need-returns-2
 unfolding isEqual
 returns-2 c = search laws
 
--- src/lib.rt:87:1
 returns-3 : tie.Need-returns-3
 unfolding isEqual
 returns-3 c = search laws
 
--- src/lib.rt:87:1
 returns-4 : tie.Need-returns-4
 unfolding isEqual
 returns-4 c = search laws

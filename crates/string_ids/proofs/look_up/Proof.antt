@@ -16,67 +16,51 @@ Inv-loop f h text s last₀ found₀ k₀ left₀ last found k left = Looking f 
 abbrev μ-loop : tie.MeasureT-loop
 μ-loop f h text s last₀ found₀ k₀ left₀ last found k left = left
 
--- src/lib.rt:104:9
 section-of-requires : tie.Need-section-of-requires Inv-loop μ-loop
 section-of-requires c κs = search laws
 
--- src/lib.rt:110:5
 loop-holds : tie.Need-loop-holds Inv-loop μ-loop
 loop-holds c = search laws
 
--- src/lib.rt:111:15
 string-at-requires : tie.Need-string-at-requires Inv-loop μ-loop
 string-at-requires c κs = search laws
 
--- src/lib.rt:112:33
 enum-known-r : tie.Need-enum-known-r Inv-loop μ-loop
 enum-known-r c = search laws
 
--- src/lib.rt:113:17
 returns : tie.Need-returns Inv-loop μ-loop
 returns c = search laws
 
--- src/lib.rt:116:17
 enum-known-start : tie.Need-enum-known-start Inv-loop μ-loop
 enum-known-start c = search laws
 
--- src/lib.rt:120:20
 rises-requires : tie.Need-rises-requires Inv-loop μ-loop
 rises-requires c κs = search laws
 
--- src/lib.rt:121:47
 bytes-at-requires : tie.Need-bytes-at-requires Inv-loop μ-loop
 bytes-at-requires c κs = search laws
 
--- src/lib.rt:121:21
 found-with-requires : tie.Need-found-with-requires Inv-loop μ-loop
 found-with-requires c κs = search laws
 
--- src/lib.rt:126:32
 place-of-requires : tie.Need-place-of-requires Inv-loop μ-loop
 place-of-requires c κs = search laws
 
--- src/lib.rt:124:21
 returns-2 : tie.Need-returns-2 Inv-loop μ-loop
 returns-2 c = search laws
 
--- src/lib.rt:131:9
 add-k : tie.Need-add-k Inv-loop μ-loop
 add-k c = number-fits (c .before .before .before .before .before .before .before .before .before .loop .inv) (c .before .before .before .before .before .before .before .before .loop-test .taken)
 
--- src/lib.rt:132:9
 sub-left : tie.Need-sub-left Inv-loop μ-loop
 sub-left c = search laws
 
--- src/lib.rt:110:5
 loop-less : tie.Need-loop-less Inv-loop μ-loop
 loop-less c = search laws
 
--- src/lib.rt:110:5
 loop-again : tie.Need-loop-again Inv-loop μ-loop
 loop-again c = looking-next (c .before .before .before .before .before .before .before .before .before .loop .inv) (c .before .before .before .before .before .before .before .before .loop-test .taken) (c .before .before .before .before .before .before .before .string-at .ensures) (c .before .before .before .before .before .start .given .1) (c .before .before .before .rises .ensures) (c .before .before .if1 .taken) (c .before .bytes-at .ensures) (c .found-with .ensures)
 
--- src/lib.rt:101:1
 returns-3 : tie.Need-returns-3 Inv-loop μ-loop
 returns-3 c = search laws
 

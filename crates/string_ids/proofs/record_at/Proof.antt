@@ -8,28 +8,22 @@ use Rattle.frame.proofs.is_allowed.Reads as is-allowed-reads
 use Rattle.string_ids.proofs.place_of.Reads as place-of-reads
 use Rattle.word.proofs.u32_at.Reads as u32-at-reads
 
--- src/lib.rt:51:9
 place-of-requires : tie.Need-place-of-requires
 place-of-requires c κs = search laws
 
--- src/lib.rt:52:18
 u32-at-requires : tie.Need-u32-at-requires
 u32-at-requires c κs = search laws
 
--- src/lib.rt:52:18
 cast-offset : tie.Need-cast-offset
 cast-offset c = search laws
 
--- src/lib.rt:53:8
 is-allowed-requires : tie.Need-is-allowed-requires
 is-allowed-requires c κs = search laws
 
--- src/lib.rt:54:9
 returns : tie.Need-returns
 unfolding recordOf
 returns c = search laws
 
--- src/lib.rt:47:1
 returns-2 : tie.Need-returns-2
 unfolding recordOf
 returns-2 c = search laws

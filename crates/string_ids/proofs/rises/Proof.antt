@@ -7,54 +7,42 @@ use Rattle.string_ids.proofs.rises.Lts as lts
 use Rattle.text_order.proofs.compare.Reads as compare-reads
 use Rattle.word.proofs.bytes_at.Reads as bytes-at-reads
 
--- src/lib.rt:74:24
 enum-told : tie.Need-enum-told
 enum-told c = search laws
 
--- src/lib.rt:76:20
 enum-known-last : tie.Need-enum-known-last
 enum-known-last c = search laws
 
--- src/lib.rt:78:34
 bytes-at-requires : tie.Need-bytes-at-requires
 bytes-at-requires c κs = search laws
 
--- src/lib.rt:78:59
 bytes-at-requires-2 : tie.Need-bytes-at-requires-2
 bytes-at-requires-2 c κs = search laws
 
--- src/lib.rt:78:20
 compare-requires : tie.Need-compare-requires
 compare-requires c κs = search laws
 
--- src/lib.rt:79:28
 enum-told-2 : tie.Need-enum-told-2
 enum-told-2 c = search laws
 
--- src/lib.rt:80:29
 enum-told-3 : tie.Need-enum-told-3
 enum-told-3 c = search laws
 
--- src/lib.rt:81:31
 enum-told-4 : tie.Need-enum-told-4
 enum-told-4 c = search laws
 
--- src/lib.rt:70:1
 returns : tie.Need-returns
 unfolding isLess
 returns c = search laws
 
--- src/lib.rt:70:1
 returns-2 : tie.Need-returns-2
 unfolding isLess
 returns-2 c = search laws
 
--- src/lib.rt:70:1
 returns-3 : tie.Need-returns-3
 unfolding isLess
 returns-3 c = search laws
 
--- src/lib.rt:70:1
 returns-4 : tie.Need-returns-4
 unfolding isLess
 returns-4 c = search laws

@@ -7,31 +7,24 @@ use Rattle.header.proofs.section_of.Reads as section-of-reads
 use Rattle.string_ids.proofs.record_at.Reads as record-at-reads
 use Rattle.text.proofs.string_at.Reads as string-at-reads
 
--- src/lib.rt:63:11
 record-at-requires : tie.Need-record-at-requires
 record-at-requires c κs = search laws
 
--- src/lib.rt:64:29
 enum-known-r : tie.Need-enum-known-r
 enum-known-r c = search laws
 
--- src/lib.rt:65:24
 enum-known-item : tie.Need-enum-known-item
 enum-known-item c = search laws
 
--- src/lib.rt:65:49
 section-of-requires : tie.Need-section-of-requires
 section-of-requires c κs = search laws
 
--- src/lib.rt:65:33
 string-at-requires : tie.Need-string-at-requires
 string-at-requires c κs = search laws
 
--- src/lib.rt:60:1
 returns : tie.Need-returns
 returns c = search laws
 
--- src/lib.rt:60:1
 returns-2 : tie.Need-returns-2
 returns-2 c = search laws
 

@@ -14,119 +14,90 @@ Inv-loop s item start p₀ units₀ p units = Head s item start p units
 abbrev μ-loop : tie.MeasureT-loop
 μ-loop s item start p₀ units₀ p units = length s - p
 
--- src/lib.rt:145:5
 loop-holds : tie.Need-loop-holds Inv-loop μ-loop
 loop-holds c = search laws
 
--- src/lib.rt:146:17
 sub-if1 : tie.Need-sub-if1 Inv-loop μ-loop
 sub-if1 c = search laws
 
--- src/lib.rt:147:17
 singles-at-requires : tie.Need-singles-at-requires Inv-loop μ-loop
 singles-at-requires c κs = search laws
 
--- src/lib.rt:149:17
 add-p : tie.Need-add-p Inv-loop μ-loop
 add-p c = search laws
 
--- src/lib.rt:150:17
 add-units : tie.Need-add-units Inv-loop μ-loop
 add-units c = search laws
 
--- src/lib.rt:145:5
 loop-less : tie.Need-loop-less Inv-loop μ-loop
 loop-less c = search laws
 
--- src/lib.rt:145:5
 loop-again : tie.Need-loop-again Inv-loop μ-loop
 loop-again c = search laws
 
--- src/lib.rt:153:21
 add-q : tie.Need-add-q Inv-loop μ-loop
 add-q c = search laws
 
--- src/lib.rt:154:20
 shared-slice-read-if3 : tie.Need-shared-slice-read-if3 Inv-loop μ-loop
 shared-slice-read-if3 c = search laws
 
--- src/lib.rt:157:21
 add-units-2 : tie.Need-add-units-2 Inv-loop μ-loop
 add-units-2 c = search laws
 
--- src/lib.rt:145:5
 loop-less-2 : tie.Need-loop-less-2 Inv-loop μ-loop
 loop-less-2 c = search laws
 
--- src/lib.rt:145:5
 loop-again-2 : tie.Need-loop-again-2 Inv-loop μ-loop
 loop-again-2 c = search laws
 
--- src/lib.rt:162:28
 add-t17 : tie.Need-add-t17 Inv-loop μ-loop
 add-t17 c = search laws
 
--- src/lib.rt:161:17
 returns : tie.Need-returns Inv-loop μ-loop
 returns c = search laws
 
--- src/lib.rt:167:12
 shared-slice-read-if5 : tie.Need-shared-slice-read-if5 Inv-loop μ-loop
 shared-slice-read-if5 c = search laws
 
--- src/lib.rt:168:20
 shared-slice-read-if6 : tie.Need-shared-slice-read-if6 Inv-loop μ-loop
 shared-slice-read-if6 c = search laws
 
--- src/lib.rt:169:17
 add-p-2 : tie.Need-add-p-2 Inv-loop μ-loop
 add-p-2 c = search laws
 
--- src/lib.rt:170:17
 add-units-3 : tie.Need-add-units-3 Inv-loop μ-loop
 add-units-3 c = search laws
 
--- src/lib.rt:145:5
 loop-less-3 : tie.Need-loop-less-3 Inv-loop μ-loop
 loop-less-3 c = search laws
 
--- src/lib.rt:145:5
 loop-again-3 : tie.Need-loop-again-3 Inv-loop μ-loop
 loop-again-3 c = search laws
 
--- src/lib.rt:173:13
 returns-2 : tie.Need-returns-2 Inv-loop μ-loop
 returns-2 c = search laws
 
--- src/lib.rt:175:15
 wide-at-requires : tie.Need-wide-at-requires Inv-loop μ-loop
 wide-at-requires c κs = search laws
 
--- src/lib.rt:176:27
 enum-known-r : tie.Need-enum-known-r Inv-loop μ-loop
 enum-known-r c = search laws
 
--- src/lib.rt:177:17
 returns-3 : tie.Need-returns-3 Inv-loop μ-loop
 returns-3 c = search laws
 
--- src/lib.rt:179:34
 enum-known-next : tie.Need-enum-known-next Inv-loop μ-loop
 enum-known-next c = search laws
 
--- src/lib.rt:181:17
 add-units-4 : tie.Need-add-units-4 Inv-loop μ-loop
 add-units-4 c = search laws
 
--- src/lib.rt:145:5
 loop-less-4 : tie.Need-loop-less-4 Inv-loop μ-loop
 loop-less-4 c = search laws
 
--- src/lib.rt:145:5
 loop-again-4 : tie.Need-loop-again-4 Inv-loop μ-loop
 loop-again-4 c = search laws
 
--- src/lib.rt:140:1
 returns-4 : tie.Need-returns-4 Inv-loop μ-loop
 returns-4 c = search laws
 

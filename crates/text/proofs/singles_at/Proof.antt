@@ -12,47 +12,36 @@ Inv-loop s p n₀ n = FewSingles s p n
 abbrev μ-loop : tie.MeasureT-loop
 μ-loop s p n₀ n = 8 - n
 
--- src/lib.rt:126:5
 loop-holds : tie.Need-loop-holds Inv-loop μ-loop
 loop-holds c = search laws
 
--- src/lib.rt:127:14
 add-if1 : tie.Need-add-if1 Inv-loop μ-loop
 add-if1 c = search laws
 
--- src/lib.rt:127:12
 shared-slice-read-if1 : tie.Need-shared-slice-read-if1 Inv-loop μ-loop
 shared-slice-read-if1 c = search laws
 
--- src/lib.rt:128:22
 add-if2 : tie.Need-add-if2 Inv-loop μ-loop
 add-if2 c = search laws
 
--- src/lib.rt:128:20
 shared-slice-read-if2 : tie.Need-shared-slice-read-if2 Inv-loop μ-loop
 shared-slice-read-if2 c = search laws
 
--- src/lib.rt:129:17
 add-n : tie.Need-add-n Inv-loop μ-loop
 add-n c = search laws
 
--- src/lib.rt:126:5
 loop-less : tie.Need-loop-less Inv-loop μ-loop
 loop-less c = search laws
 
--- src/lib.rt:126:5
 loop-again : tie.Need-loop-again Inv-loop μ-loop
 loop-again c = search laws
 
--- src/lib.rt:132:13
 returns : tie.Need-returns Inv-loop μ-loop
 returns c = search laws
 
--- src/lib.rt:134:9
 returns-2 : tie.Need-returns-2 Inv-loop μ-loop
 returns-2 c = search laws
 
--- src/lib.rt:121:1
 returns-3 : tie.Need-returns-3 Inv-loop μ-loop
 returns-3 c = search laws
 

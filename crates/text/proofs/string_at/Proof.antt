@@ -6,58 +6,45 @@ use Rattle.text.proofs.string_at.Lts as lts
 use Rattle.leb128.proofs.uleb.Reads as uleb-reads
 use Rattle.text.proofs.count_at.Reads as count-at-reads
 
--- src/lib.rt:161:11
 uleb-requires : tie.Need-uleb-requires
 uleb-requires c κs = search laws
 
--- src/lib.rt:162:22
 enum-known-r : tie.Need-enum-known-r
 enum-known-r c = search laws
 
--- src/lib.rt:163:20
 enum-known-value : tie.Need-enum-known-value
 enum-known-value c = search laws
 
--- src/lib.rt:163:43
 count-at-requires : tie.Need-count-at-requires
 count-at-requires c κs = search laws
 
--- src/lib.rt:164:28
 enum-known-r-2 : tie.Need-enum-known-r-2
 enum-known-r-2 c = search laws
 
--- src/lib.rt:165:26
 enum-known-units : tie.Need-enum-known-units
 enum-known-units c = search laws
 
--- src/lib.rt:166:30
 sub-length : tie.Need-sub-length
 sub-length c = search laws
 
--- src/lib.rt:167:29
 cast-if1 : tie.Need-cast-if1
 cast-if1 c = search laws
 
--- src/lib.rt:168:21
 returns : tie.Need-returns
 unfolding stagedAt
 returns c = search laws depth 8
 
--- src/lib.rt:176:28
 cast-t17 : tie.Need-cast-t17
 cast-t17 c = search laws
 
--- src/lib.rt:158:1
 returns-2 : tie.Need-returns-2
 unfolding stagedAt
 returns-2 c = search laws
 
--- src/lib.rt:158:1
 returns-3 : tie.Need-returns-3
 unfolding stagedAt
 returns-3 c = search laws
 
--- src/lib.rt:158:1
 returns-4 : tie.Need-returns-4
 unfolding stagedAt
 returns-4 c = search laws depth 8

@@ -6,83 +6,64 @@ use Rattle.text.proofs.three_at.Tie as tie
 use Rattle.text.proofs.three_at.Reads as reads
 use Rattle.text.proofs.three_at.Lts as lts
 
--- src/lib.rt:69:8
 sub-if1 : tie.Need-sub-if1
 sub-if1 c = search laws
 
--- src/lib.rt:70:9
 returns : tie.Need-returns
 unfolding threeAt
 returns c = search laws
 
--- src/lib.rt:72:13
 shared-slice-read-a : tie.Need-shared-slice-read-a
 shared-slice-read-a c = search laws
 
--- src/lib.rt:72:13
 cast-a : tie.Need-cast-a
 cast-a c = search (byte-fits, c .shared-slice-known .given)
 
--- src/lib.rt:73:15
 add-b : tie.Need-add-b
 add-b c = search laws
 
--- src/lib.rt:73:13
 shared-slice-read-b : tie.Need-shared-slice-read-b
 shared-slice-read-b c = search laws
 
--- src/lib.rt:73:13
 cast-b : tie.Need-cast-b
 cast-b c = search (byte-fits, c .shared-slice-known2 .given)
 
--- src/lib.rt:75:9
 returns-2 : tie.Need-returns-2
 unfolding threeAt
 returns-2 c = search laws
 
--- src/lib.rt:77:15
 add-c : tie.Need-add-c
 add-c c = search laws
 
--- src/lib.rt:77:13
 shared-slice-read-c : tie.Need-shared-slice-read-c
 shared-slice-read-c c = search laws
 
--- src/lib.rt:77:13
 cast-c : tie.Need-cast-c
 cast-c c = search (byte-fits, c .shared-slice-known3 .given)
 
--- src/lib.rt:79:9
 returns-3 : tie.Need-returns-3
 unfolding threeAt
 returns-3 c = search laws
 
--- src/lib.rt:81:16
 mul-unit : tie.Need-mul-unit
 mul-unit c = search laws
 
--- src/lib.rt:81:32
 mul-unit-2 : tie.Need-mul-unit-2
 mul-unit-2 c = search laws
 
--- src/lib.rt:81:16
 add-unit : tie.Need-add-unit
 add-unit c = search laws
 
--- src/lib.rt:81:16
 add-unit-2 : tie.Need-add-unit-2
 add-unit-2 c = search laws
 
--- src/lib.rt:83:9
 returns-4 : tie.Need-returns-4
 unfolding threeAt
 returns-4 c = search laws
 
--- src/lib.rt:85:29
 add-t9 : tie.Need-add-t9
 add-t9 c = search laws
 
--- src/lib.rt:65:1
 returns-5 : tie.Need-returns-5
 unfolding threeAt
 returns-5 c = search laws

@@ -6,67 +6,52 @@ use Rattle.text.proofs.two_at.Tie as tie
 use Rattle.text.proofs.two_at.Reads as reads
 use Rattle.text.proofs.two_at.Lts as lts
 
--- src/lib.rt:45:8
 sub-if1 : tie.Need-sub-if1
 sub-if1 c = search laws
 
--- src/lib.rt:46:9
 returns : tie.Need-returns
 unfolding twoAt
 returns c = search laws
 
--- src/lib.rt:48:13
 shared-slice-read-a : tie.Need-shared-slice-read-a
 shared-slice-read-a c = search laws
 
--- src/lib.rt:48:13
 cast-a : tie.Need-cast-a
 cast-a c = search (byte-fits, c .shared-slice-known .given)
 
--- src/lib.rt:49:15
 add-b : tie.Need-add-b
 add-b c = search laws
 
--- src/lib.rt:49:13
 shared-slice-read-b : tie.Need-shared-slice-read-b
 shared-slice-read-b c = search laws
 
--- src/lib.rt:49:13
 cast-b : tie.Need-cast-b
 cast-b c = search (byte-fits, c .shared-slice-known2 .given)
 
--- src/lib.rt:51:9
 returns-2 : tie.Need-returns-2
 unfolding twoAt
 returns-2 c = search laws
 
--- src/lib.rt:53:16
 mul-unit : tie.Need-mul-unit
 mul-unit c = search laws
 
--- src/lib.rt:53:16
 add-unit : tie.Need-add-unit
 add-unit c = search laws
 
--- src/lib.rt:55:40
 add-t18 : tie.Need-add-t18
 add-t18 c = search laws
 
--- src/lib.rt:55:9
 returns-3 : tie.Need-returns-3
 unfolding twoAt
 returns-3 c = search laws
 
--- src/lib.rt:59:40
 add-t19 : tie.Need-add-t19
 add-t19 c = search laws
 
--- src/lib.rt:59:9
 returns-4 : tie.Need-returns-4
 unfolding twoAt
 returns-4 c = search laws
 
--- src/lib.rt:41:1
 returns-5 : tie.Need-returns-5
 unfolding twoAt
 returns-5 c = search laws

@@ -7,33 +7,26 @@ use Rattle.text.proofs.wide_at.Lts as lts
 use Rattle.text.proofs.three_at.Reads as three-at-reads
 use Rattle.text.proofs.two_at.Reads as two-at-reads
 
--- src/lib.rt:93:8
 shared-slice-read-if1 : tie.Need-shared-slice-read-if1
 shared-slice-read-if1 c = search laws
 
--- src/lib.rt:94:9
 two-at-requires : tie.Need-two-at-requires
 two-at-requires c κs = search laws
 
--- src/lib.rt:94:9
 returns : tie.Need-returns
 unfolding wideAt
 returns c = search laws
 
--- src/lib.rt:96:8
 shared-slice-read-if2 : tie.Need-shared-slice-read-if2
 shared-slice-read-if2 c = search laws
 
--- src/lib.rt:97:9
 three-at-requires : tie.Need-three-at-requires
 three-at-requires c κs = search laws
 
--- src/lib.rt:97:9
 returns-2 : tie.Need-returns-2
 unfolding wideAt
 returns-2 c = search laws
 
--- src/lib.rt:89:1
 returns-3 : tie.Need-returns-3
 unfolding wideAt
 returns-3 c = search laws

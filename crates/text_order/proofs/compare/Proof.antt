@@ -13,55 +13,42 @@ Inv-loop a b i₀ i = Comparing a b i
 abbrev μ-loop : tie.MeasureT-loop
 μ-loop a b i₀ i = length a - i
 
--- src/lib.rt:175:5
 loop-holds : tie.Need-loop-holds Inv-loop μ-loop
 loop-holds c = search laws
 
--- src/lib.rt:177:13
 returns : tie.Need-returns Inv-loop μ-loop
 returns c = search laws
 
--- src/lib.rt:179:12
 shared-slice-read-if2 : tie.Need-shared-slice-read-if2 Inv-loop μ-loop
 shared-slice-read-if2 c = search laws
 
--- src/lib.rt:179:20
 shared-slice-read-if2-2 : tie.Need-shared-slice-read-if2-2 Inv-loop μ-loop
 shared-slice-read-if2-2 c = search laws
 
--- src/lib.rt:180:31
 shared-slice-read-earlier-of : tie.Need-shared-slice-read-earlier-of Inv-loop μ-loop
 shared-slice-read-earlier-of c = search laws
 
--- src/lib.rt:180:37
 shared-slice-read-earlier-of-2 : tie.Need-shared-slice-read-earlier-of-2 Inv-loop μ-loop
 shared-slice-read-earlier-of-2 c = search laws
 
--- src/lib.rt:180:13
 earlier-of-requires : tie.Need-earlier-of-requires Inv-loop μ-loop
 earlier-of-requires c κs = search laws
 
--- src/lib.rt:180:13
 returns-2 : tie.Need-returns-2 Inv-loop μ-loop
 returns-2 c = search laws
 
--- src/lib.rt:182:9
 add-i : tie.Need-add-i Inv-loop μ-loop
 add-i c = search laws
 
--- src/lib.rt:175:5
 loop-less : tie.Need-loop-less Inv-loop μ-loop
 loop-less c = search laws
 
--- src/lib.rt:175:5
 loop-again : tie.Need-loop-again Inv-loop μ-loop
 loop-again c = search laws
 
--- src/lib.rt:185:9
 returns-3 : tie.Need-returns-3 Inv-loop μ-loop
 returns-3 c = search laws
 
--- src/lib.rt:171:1
 returns-4 : tie.Need-returns-4 Inv-loop μ-loop
 returns-4 c = search laws
 

@@ -5,19 +5,15 @@ use Rattle.text_order.proofs.earlier_of.Reads as reads
 use Rattle.text_order.proofs.earlier_of.Lts as lts
 use Rattle.text_order.proofs.key_of.Reads as key-of-reads
 
--- src/lib.rt:162:9
 key-of-requires : tie.Need-key-of-requires
 key-of-requires c κs = search laws
 
--- src/lib.rt:163:9
 key-of-requires-2 : tie.Need-key-of-requires-2
 key-of-requires-2 c κs = search laws
 
--- src/lib.rt:165:9
 returns : tie.Need-returns
 returns c = search laws
 
--- src/lib.rt:159:1
 returns-2 : tie.Need-returns-2
 returns-2 c = search laws
 

@@ -4,15 +4,12 @@ use Rattle.text_order.proofs.key_of.Tie as tie
 use Rattle.text_order.proofs.key_of.Reads as reads
 use Rattle.text_order.proofs.key_of.Lts as lts
 
--- src/lib.rt:153:9
 returns : tie.Need-returns
 returns c = search laws
 
--- src/lib.rt:155:5
 add-result : tie.Need-add-result
 add-result c = search laws
 
--- src/lib.rt:149:1
 returns-2 : tie.Need-returns-2
 returns-2 c = search laws
 

@@ -11,35 +11,27 @@ Inv-loop s j count k₀ left₀ k left = Going s j count left k
 abbrev μ-loop : tie.MeasureT-loop
 μ-loop s j count k₀ left₀ k left = left
 
--- src/lib.rt:50:5
 loop-holds : tie.Need-loop-holds Inv-loop μ-loop
 loop-holds c = search laws
 
--- src/lib.rt:51:13
 entry-number-requires : tie.Need-entry-number-requires Inv-loop μ-loop
 entry-number-requires c κs = search laws
 
--- src/lib.rt:53:13
 returns : tie.Need-returns Inv-loop μ-loop
 returns c = search laws
 
--- src/lib.rt:58:9
 add-k : tie.Need-add-k Inv-loop μ-loop
 add-k c = search laws
 
--- src/lib.rt:59:9
 sub-left : tie.Need-sub-left Inv-loop μ-loop
 sub-left c = search laws
 
--- src/lib.rt:50:5
 loop-less : tie.Need-loop-less Inv-loop μ-loop
 loop-less c = search laws
 
--- src/lib.rt:50:5
 loop-again : tie.Need-loop-again Inv-loop μ-loop
 loop-again c = search laws
 
--- src/lib.rt:45:1
 returns-2 : tie.Need-returns-2 Inv-loop μ-loop
 returns-2 c = search laws
 

@@ -5,31 +5,24 @@ use Rattle.type_list.proofs.entry_number.Reads as reads
 use Rattle.type_list.proofs.entry_number.Lts as lts
 use Rattle.word.proofs.u16_at.Reads as u16-at-reads
 
--- src/lib.rt:39:9
 returns : tie.Need-returns
 returns c = search laws
 
--- src/lib.rt:41:21
 add-u16-at : tie.Need-add-u16-at
 add-u16-at c = search laws
 
--- src/lib.rt:41:30
 mul-u16-at : tie.Need-mul-u16-at
 mul-u16-at c = search laws
 
--- src/lib.rt:41:21
 add-u16-at-2 : tie.Need-add-u16-at-2
 add-u16-at-2 c = search laws
 
--- src/lib.rt:41:5
 u16-at-requires : tie.Need-u16-at-requires
 u16-at-requires c κs = search laws
 
--- src/lib.rt:41:5
 cast-result : tie.Need-cast-result
 cast-result c = search laws
 
--- src/lib.rt:33:1
 returns-2 : tie.Need-returns-2
 returns-2 c = search laws
 

@@ -7,33 +7,26 @@ use Rattle.type_list.proofs.type_at.Lts as lts
 use Rattle.type_list.proofs.count_at.Reads as count-at-reads
 use Rattle.type_list.proofs.entry_number.Reads as entry-number-reads
 
--- src/lib.rt:99:11
 count-at-requires : tie.Need-count-at-requires
 count-at-requires c κs = search laws
 
--- src/lib.rt:100:30
 enum-known-r : tie.Need-enum-known-r
 enum-known-r c = search laws
 
--- src/lib.rt:101:26
 enum-known-count : tie.Need-enum-known-count
 enum-known-count c = search laws
 
--- src/lib.rt:103:40
 entry-number-requires : tie.Need-entry-number-requires
 entry-number-requires c κs = search laws
 
--- src/lib.rt:103:17
 returns : tie.Need-returns
 unfolding numberAt
 returns c = search laws
 
--- src/lib.rt:96:1
 returns-2 : tie.Need-returns-2
 unfolding numberAt
 returns-2 c = search laws
 
--- src/lib.rt:96:1
 returns-3 : tie.Need-returns-3
 unfolding numberAt
 returns-3 c = search laws

@@ -7,47 +7,36 @@ use Rattle.encoded_value.proofs.top_annotation.Reads as top-annotation-reads
 use Rattle.encoded_value.proofs.annotation_start.Reads as annotation-start-reads
 use Rattle.value_bodies.proofs.kth_element.Reads as kth-element-reads
 
--- src/lib.rt:176:11
 top-annotation-requires : tie.Need-top-annotation-requires
 top-annotation-requires c κs = search laws
 
--- src/lib.rt:177:23
 enum-known-r : tie.Need-enum-known-r
 enum-known-r c = search laws
 
--- src/lib.rt:178:32
 enum-told : tie.Need-enum-told
 enum-told c = search laws
 
--- src/lib.rt:178:32
 annotation-start-requires : tie.Need-annotation-start-requires
 annotation-start-requires c κs = search laws
 
--- src/lib.rt:179:26
 enum-known-r-2 : tie.Need-enum-known-r-2
 enum-known-r-2 c = search laws
 
--- src/lib.rt:180:31
 enum-known-count : tie.Need-enum-known-count
 enum-known-count c = search laws
 
--- src/lib.rt:182:21
 kth-element-requires : tie.Need-kth-element-requires
 kth-element-requires c κs = search laws
 
--- src/lib.rt:182:21
 returns : tie.Need-returns
 returns c = search laws
 
--- src/lib.rt:173:1
 returns-2 : tie.Need-returns-2
 returns-2 c = search laws
 
--- src/lib.rt:173:1
 returns-3 : tie.Need-returns-3
 returns-3 c = search laws
 
--- src/lib.rt:173:1
 returns-4 : tie.Need-returns-4
 returns-4 c = search laws
 

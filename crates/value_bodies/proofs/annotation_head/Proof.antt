@@ -7,55 +7,42 @@ use Rattle.encoded_value.proofs.top_annotation.Reads as top-annotation-reads
 use Rattle.value_heads.proofs.index_at.Reads as index-at-reads
 use Rattle.leb128.proofs.uleb.Reads as uleb-reads
 
--- src/lib.rt:106:11
 top-annotation-requires : tie.Need-top-annotation-requires
 top-annotation-requires c κs = search laws
 
--- src/lib.rt:107:23
 enum-known-r : tie.Need-enum-known-r
 enum-known-r c = search laws
 
--- src/lib.rt:108:32
 enum-told : tie.Need-enum-told
 enum-told c = search laws
 
--- src/lib.rt:108:32
 index-at-requires : tie.Need-index-at-requires
 index-at-requires c κs = search laws
 
--- src/lib.rt:109:26
 enum-known-r-2 : tie.Need-enum-known-r-2
 enum-known-r-2 c = search laws
 
--- src/lib.rt:111:24
 enum-known-type-index : tie.Need-enum-known-type-index
 enum-known-type-index c = search laws
 
--- src/lib.rt:113:24
 uleb-requires : tie.Need-uleb-requires
 uleb-requires c κs = search laws
 
--- src/lib.rt:114:30
 enum-known-r-3 : tie.Need-enum-known-r-3
 enum-known-r-3 c = search laws
 
--- src/lib.rt:116:28
 enum-known-count : tie.Need-enum-known-count
 enum-known-count c = search laws
 
--- src/lib.rt:103:1
 returns : tie.Need-returns
 returns c = search laws
 
--- src/lib.rt:103:1
 returns-2 : tie.Need-returns-2
 returns-2 c = search laws
 
--- src/lib.rt:103:1
 returns-3 : tie.Need-returns-3
 returns-3 c = search laws
 
--- src/lib.rt:103:1
 returns-4 : tie.Need-returns-4
 returns-4 c = search laws
 

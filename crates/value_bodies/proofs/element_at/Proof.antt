@@ -7,41 +7,32 @@ use Rattle.value_bodies.proofs.element_at.Lts as lts
 use Rattle.decoded_value.proofs.decode_at.Reads as decode-at-reads
 use Rattle.value_heads.proofs.index_at.Reads as index-at-reads
 
--- src/lib.rt:153:11
 index-at-requires : tie.Need-index-at-requires
 index-at-requires c κs = search laws
 
--- src/lib.rt:154:22
 enum-known-r : tie.Need-enum-known-r
 enum-known-r c = search laws
 
--- src/lib.rt:155:27
 enum-known-name : tie.Need-enum-known-name
 enum-known-name c = search laws
 
--- src/lib.rt:155:49
 decode-at-requires : tie.Need-decode-at-requires
 decode-at-requires c κs = search laws
 
--- src/lib.rt:156:30
 enum-known-r-2 : tie.Need-enum-known-r-2
 enum-known-r-2 c = search laws
 
--- src/lib.rt:157:28
 enum-known-value : tie.Need-enum-known-value
 enum-known-value c = search laws
 
--- src/lib.rt:150:1
 returns : tie.Need-returns
 unfolding elementThere
 returns c = search laws
 
--- src/lib.rt:150:1
 returns-2 : tie.Need-returns-2
 unfolding elementThere
 returns-2 c = search laws
 
--- src/lib.rt:150:1
 returns-3 : tie.Need-returns-3
 unfolding elementThere
 returns-3 c = search laws

@@ -15,55 +15,42 @@ Inv-loop s w from k p₀ left₀ p left = Loop (elementsPast s w from k) (pastNa
 abbrev μ-loop : tie.MeasureT-loop
 μ-loop s w from k p₀ left₀ p left = left
 
--- src/lib.rt:130:5
 loop-holds : tie.Need-loop-holds Inv-loop μ-loop
 loop-holds c = search laws
 
--- src/lib.rt:131:15
 index-at-requires : tie.Need-index-at-requires Inv-loop μ-loop
 index-at-requires c κs = search laws
 
--- src/lib.rt:132:26
 enum-known-r : tie.Need-enum-known-r Inv-loop μ-loop
 enum-known-r c = search laws
 
--- src/lib.rt:133:17
 returns : tie.Need-returns Inv-loop μ-loop
 returns c = search laws
 
--- src/lib.rt:135:40
 enum-known-at : tie.Need-enum-known-at Inv-loop μ-loop
 enum-known-at c = search laws
 
--- src/lib.rt:135:54
 value-requires : tie.Need-value-requires Inv-loop μ-loop
 value-requires c κs = search laws
 
--- src/lib.rt:136:31
 enum-known-r-2 : tie.Need-enum-known-r-2 Inv-loop μ-loop
 enum-known-r-2 c = search laws
 
--- src/lib.rt:137:21
 returns-2 : tie.Need-returns-2 Inv-loop μ-loop
 returns-2 c = search laws
 
--- src/lib.rt:139:28
 enum-known-next : tie.Need-enum-known-next Inv-loop μ-loop
 enum-known-next c = search laws
 
--- src/lib.rt:144:9
 sub-left : tie.Need-sub-left Inv-loop μ-loop
 sub-left c = search laws
 
--- src/lib.rt:130:5
 loop-less : tie.Need-loop-less Inv-loop μ-loop
 loop-less c = search laws
 
--- src/lib.rt:130:5
 loop-again : tie.Need-loop-again Inv-loop μ-loop
 loop-again c = search laws
 
--- src/lib.rt:125:1
 returns-3 : tie.Need-returns-3 Inv-loop μ-loop
 returns-3 c = search laws
 

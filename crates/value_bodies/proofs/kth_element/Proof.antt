@@ -7,28 +7,22 @@ use Rattle.value_bodies.proofs.kth_element.Lts as lts
 use Rattle.value_bodies.proofs.element_at.Reads as element-at-reads
 use Rattle.value_bodies.proofs.elements_past.Reads as elements-past-reads
 
--- src/lib.rt:166:11
 elements-past-requires : tie.Need-elements-past-requires
 elements-past-requires c κs = search laws
 
--- src/lib.rt:167:23
 enum-known-r : tie.Need-enum-known-r
 enum-known-r c = search laws
 
--- src/lib.rt:168:20
 enum-known-at : tie.Need-enum-known-at
 enum-known-at c = search laws
 
--- src/lib.rt:168:27
 element-at-requires : tie.Need-element-at-requires
 element-at-requires c κs = search laws
 
--- src/lib.rt:163:1
 returns : tie.Need-returns
 unfolding kthElement
 returns c = search laws
 
--- src/lib.rt:163:1
 returns-2 : tie.Need-returns-2
 unfolding kthElement
 returns-2 c = search laws

@@ -7,41 +7,32 @@ use Rattle.value_bodies.proofs.kth_value.Lts as lts
 use Rattle.decoded_value.proofs.decode_at.Reads as decode-at-reads
 use Rattle.value_bodies.proofs.values_past.Reads as values-past-reads
 
--- src/lib.rt:72:11
 values-past-requires : tie.Need-values-past-requires
 values-past-requires c κs = search laws
 
--- src/lib.rt:73:23
 enum-known-r : tie.Need-enum-known-r
 enum-known-r c = search laws
 
--- src/lib.rt:74:20
 enum-known-at : tie.Need-enum-known-at
 enum-known-at c = search laws
 
--- src/lib.rt:74:33
 decode-at-requires : tie.Need-decode-at-requires
 decode-at-requires c κs = search laws
 
--- src/lib.rt:75:30
 enum-known-r-2 : tie.Need-enum-known-r-2
 enum-known-r-2 c = search laws
 
--- src/lib.rt:76:28
 enum-known-value : tie.Need-enum-known-value
 enum-known-value c = search laws
 
--- src/lib.rt:69:1
 returns : tie.Need-returns
 unfolding kthValue valueThere
 returns c = search laws
 
--- src/lib.rt:69:1
 returns-2 : tie.Need-returns-2
 unfolding kthValue valueThere
 returns-2 c = search laws
 
--- src/lib.rt:69:1
 returns-3 : tie.Need-returns-3
 unfolding kthValue valueThere
 returns-3 c = search laws

@@ -7,33 +7,26 @@ use Rattle.value_heads.proofs.checked_number.Lts as lts
 use Rattle.value_heads.proofs.is_in_range.Reads as is-in-range-reads
 use Rattle.value_heads.proofs.number_at.Reads as number-at-reads
 
--- src/lib.rt:186:11
 number-at-requires : tie.Need-number-at-requires
 number-at-requires c κs = search laws
 
--- src/lib.rt:187:25
 enum-known-r : tie.Need-enum-known-r
 enum-known-r c = search laws
 
--- src/lib.rt:188:23
 enum-known-value : tie.Need-enum-known-value
 enum-known-value c = search laws
 
--- src/lib.rt:189:16
 is-in-range-requires : tie.Need-is-in-range-requires
 is-in-range-requires c κs = search laws
 
--- src/lib.rt:190:17
 returns : tie.Need-returns
 unfolding checkedAt
 returns c = search laws
 
--- src/lib.rt:183:1
 returns-2 : tie.Need-returns-2
 unfolding checkedAt
 returns-2 c = search laws
 
--- src/lib.rt:183:1
 returns-3 : tie.Need-returns-3
 unfolding checkedAt
 returns-3 c = search laws

@@ -4,11 +4,9 @@ use Rattle.value_heads.proofs.has_room.Tie as tie
 use Rattle.value_heads.proofs.has_room.Reads as reads
 use Rattle.value_heads.proofs.has_room.Lts as lts
 
--- src/lib.rt:116:9
 returns : tie.Need-returns
 returns c = search laws
 
--- src/lib.rt:112:1
 returns-2 : tie.Need-returns-2
 returns-2 c = search laws
 

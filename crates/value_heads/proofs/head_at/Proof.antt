@@ -6,25 +6,20 @@ use Rattle.value_heads.proofs.head_at.Reads as reads
 use Rattle.value_heads.proofs.head_at.Lts as lts
 use Rattle.value_heads.proofs.is_allowed_head.Reads as is-allowed-head-reads
 
--- src/lib.rt:126:9
 returns : tie.Need-returns
 unfolding headAt
 returns c = search laws
 
--- src/lib.rt:131:16
 shared-slice-read-head : tie.Need-shared-slice-read-head
 shared-slice-read-head c = search laws
 
--- src/lib.rt:132:8
 is-allowed-head-requires : tie.Need-is-allowed-head-requires
 is-allowed-head-requires c κs = search laws
 
--- src/lib.rt:133:9
 returns-2 : tie.Need-returns-2
 unfolding headAt
 returns-2 c = search laws
 
--- src/lib.rt:122:1
 returns-3 : tie.Need-returns-3
 unfolding headAt
 returns-3 c = search laws

@@ -6,29 +6,23 @@ use Rattle.value_heads.proofs.index_at.Reads as reads
 use Rattle.value_heads.proofs.index_at.Lts as lts
 use Rattle.leb128.proofs.uleb.Reads as uleb-reads
 
--- src/lib.rt:235:11
 uleb-requires : tie.Need-uleb-requires
 uleb-requires c κs = search laws
 
--- src/lib.rt:236:22
 enum-known-r : tie.Need-enum-known-r
 enum-known-r c = search laws
 
--- src/lib.rt:237:20
 enum-known-value : tie.Need-enum-known-value
 enum-known-value c = search laws
 
--- src/lib.rt:239:17
 returns : tie.Need-returns
 unfolding indexAt
 returns c = search laws
 
--- src/lib.rt:232:1
 returns-2 : tie.Need-returns-2
 unfolding indexAt
 returns-2 c = search laws
 
--- src/lib.rt:232:1
 returns-3 : tie.Need-returns-3
 unfolding indexAt
 returns-3 c = search laws

@@ -5,15 +5,12 @@ use Rattle.value_heads.proofs.is_allowed_head.Tie as tie
 use Rattle.value_heads.proofs.is_allowed_head.Reads as reads
 use Rattle.value_heads.proofs.is_allowed_head.Lts as lts
 
--- src/lib.rt:67:27
 cast-result : tie.Need-cast-result
 cast-result c = search laws
 
--- src/lib.rt:67:17
 array-read-result : tie.Need-array-read-result
 array-read-result c = search laws
 
--- src/lib.rt:64:1
 returns : tie.Need-returns
 unfolding allowed-head arguments
 returns c = search laws

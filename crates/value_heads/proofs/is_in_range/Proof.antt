@@ -6,23 +6,18 @@ use Rattle.value_heads.proofs.is_in_range.Lts as lts
 use Rattle.value_heads.proofs.is_index_code.Reads as is-index-code-reads
 use Rattle.value_heads.proofs.limit_of.Reads as limit-of-reads
 
--- src/lib.rt:176:8
 is-index-code-requires : tie.Need-is-index-code-requires
 is-index-code-requires c κs = search laws
 
--- src/lib.rt:177:25
 limit-of-requires : tie.Need-limit-of-requires
 limit-of-requires c κs = search laws
 
--- src/lib.rt:177:25
 cast-result : tie.Need-cast-result
 cast-result c = search laws
 
--- src/lib.rt:177:9
 returns : tie.Need-returns
 returns c = search laws
 
--- src/lib.rt:173:1
 returns-2 : tie.Need-returns-2
 returns-2 c = search laws
 

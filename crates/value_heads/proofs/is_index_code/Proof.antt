@@ -4,11 +4,9 @@ use Rattle.value_heads.proofs.is_index_code.Tie as tie
 use Rattle.value_heads.proofs.is_index_code.Reads as reads
 use Rattle.value_heads.proofs.is_index_code.Lts as lts
 
--- src/lib.rt:84:9
 returns : tie.Need-returns
 returns c = search laws
 
--- src/lib.rt:80:1
 returns-2 : tie.Need-returns-2
 returns-2 c = search laws
 

@@ -10,43 +10,33 @@ Inv-loop s at n sum₀ left₀ sum left = Joining s at n left sum
 abbrev μ-loop : tie.MeasureT-loop
 μ-loop s at n sum₀ left₀ sum left = left
 
--- src/lib.rt:148:5
 loop-holds : tie.Need-loop-holds Inv-loop μ-loop
 loop-holds c = search laws
 
--- src/lib.rt:149:9
 sub-left : tie.Need-sub-left Inv-loop μ-loop
 sub-left c = search laws
 
--- src/lib.rt:150:15
 mul-sum : tie.Need-mul-sum Inv-loop μ-loop
 mul-sum c = search laws
 
--- src/lib.rt:150:29
 add-sum : tie.Need-add-sum Inv-loop μ-loop
 add-sum c = search laws
 
--- src/lib.rt:150:27
 shared-slice-read-sum : tie.Need-shared-slice-read-sum Inv-loop μ-loop
 shared-slice-read-sum c = search laws
 
--- src/lib.rt:150:27
 cast-sum : tie.Need-cast-sum Inv-loop μ-loop
 cast-sum c = search (laws, c .shared-slice-known .given)
 
--- src/lib.rt:150:15
 add-sum-2 : tie.Need-add-sum-2 Inv-loop μ-loop
 add-sum-2 c = search (laws, c .shared-slice-known .given)
 
--- src/lib.rt:148:5
 loop-less : tie.Need-loop-less Inv-loop μ-loop
 loop-less c = search laws
 
--- src/lib.rt:148:5
 loop-again : tie.Need-loop-again Inv-loop μ-loop
 loop-again c = search (laws, c .shared-slice-known .given)
 
--- src/lib.rt:142:1
 returns : tie.Need-returns Inv-loop μ-loop
 returns c = search laws
 

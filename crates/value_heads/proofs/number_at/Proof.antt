@@ -7,27 +7,21 @@ use Rattle.value_heads.proofs.has_room.Reads as has-room-reads
 use Rattle.value_heads.proofs.joined.Reads as joined-reads
 use Rattle.value_heads.proofs.size_of.Reads as size-of-reads
 
--- src/lib.rt:159:9
 size-of-requires : tie.Need-size-of-requires
 size-of-requires c κs = search laws
 
--- src/lib.rt:160:8
 has-room-requires : tie.Need-has-room-requires
 has-room-requires c κs = search laws
 
--- src/lib.rt:162:20
 joined-requires : tie.Need-joined-requires
 joined-requires c κs = search laws
 
--- src/lib.rt:163:19
 add-t9 : tie.Need-add-t9
 add-t9 c = search laws
 
--- src/lib.rt:161:9
 returns : tie.Need-returns
 returns c = search laws
 
--- src/lib.rt:156:1
 returns-2 : tie.Need-returns-2
 returns-2 c = search laws
 

@@ -4,19 +4,15 @@ use Rattle.value_heads.proofs.size_of.Tie as tie
 use Rattle.value_heads.proofs.size_of.Reads as reads
 use Rattle.value_heads.proofs.size_of.Lts as lts
 
--- src/lib.rt:75:17
 add-result : tie.Need-add-result
 add-result c = search laws
 
--- src/lib.rt:75:16
 cast-result : tie.Need-cast-result
 cast-result c = search laws
 
--- src/lib.rt:75:9
 returns : tie.Need-returns
 returns c = search laws
 
--- src/lib.rt:71:1
 returns-2 : tie.Need-returns-2
 returns-2 c = search laws
 

@@ -6,27 +6,21 @@ use Rattle.whole_check.proofs.check.Lts as lts
 use Rattle.header.proofs.header_of.Reads as header-of-reads
 use Rattle.whole_check.proofs.check_in.Reads as check-in-reads
 
--- src/lib.rt:97:11
 header-of-requires : tie.Need-header-of-requires
 header-of-requires c κs = search laws depth 8
 
--- src/lib.rt:98:31
 enum-known-r : tie.Need-enum-known-r
 enum-known-r c = search laws depth 8
 
--- src/lib.rt:99:27
 enum-known-h : tie.Need-enum-known-h
 enum-known-h c = search laws depth 8
 
--- src/lib.rt:99:33
 check-in-requires : tie.Need-check-in-requires
 check-in-requires c κs = search laws depth 8
 
--- src/lib.rt:94:1
 returns : tie.Need-returns
 returns c = search laws depth 8
 
--- src/lib.rt:94:1
 returns-2 : tie.Need-returns-2
 returns-2 c = search laws depth 8
 

@@ -7,28 +7,22 @@ use Rattle.whole_check.proofs.check_in.Lts as lts
 use Rattle.map_list.proofs.map_of.Reads as map-of-reads
 use Rattle.whole_check.proofs.tables_pass.Reads as tables-pass-reads
 
--- src/lib.rt:84:11
 map-of-requires : tie.Need-map-of-requires
 map-of-requires c κs = search laws depth 8
 
--- src/lib.rt:85:28
 enum-known-r : tie.Need-enum-known-r
 enum-known-r c = search laws depth 8
 
--- src/lib.rt:86:24
 enum-known-m : tie.Need-enum-known-m
 enum-known-m c = search laws depth 8
 
--- src/lib.rt:88:13
 tables-pass-requires : tie.Need-tables-pass-requires
 tables-pass-requires c κs = search laws depth 8
 
--- src/lib.rt:81:1
 returns : tie.Need-returns
 unfolding passIn
 returns c = search laws depth 8
 
--- src/lib.rt:81:1
 returns-2 : tie.Need-returns-2
 unfolding passIn
 returns-2 c = search laws depth 8

@@ -8,32 +8,25 @@ use Rattle.header.proofs.frame_of.Reads as frame-of-reads
 use Rattle.whole_check.proofs.tables.classes_pass.Reads as classes-pass-reads
 use Rattle.whole_check.proofs.tables.handles_pass.Reads as handles-pass-reads
 
--- src/lib.rt:63:35
 frame-of-requires : tie.Need-frame-of-requires
 frame-of-requires c κs = search laws depth 8
 
--- src/lib.rt:63:11
 handles-pass-requires : tie.Need-handles-pass-requires
 handles-pass-requires c κs = search laws depth 8
 
--- src/lib.rt:64:26
 enum-known-r : tie.Need-enum-known-r
 enum-known-r c = search laws depth 8
 
--- src/lib.rt:65:30
 enum-told : tie.Need-enum-told
 enum-told c = search laws depth 8
 
--- src/lib.rt:65:30
 classes-pass-requires : tie.Need-classes-pass-requires
 classes-pass-requires c κs = search laws depth 8
 
--- src/lib.rt:59:1
 returns : tie.Need-returns
 unfolding itemsPass
 returns c = search laws depth 8
 
--- src/lib.rt:59:1
 returns-2 : tie.Need-returns-2
 unfolding itemsPass
 returns-2 c = search laws depth 8

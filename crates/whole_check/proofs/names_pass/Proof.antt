@@ -9,49 +9,38 @@ use Rattle.whole_check.proofs.strings_pass.Reads as strings-pass-reads
 use Rattle.whole_check.proofs.tables.protos_pass.Reads as protos-pass-reads
 use Rattle.whole_check.proofs.tables.types_pass.Reads as types-pass-reads
 
--- src/lib.rt:30:11
 strings-pass-requires : tie.Need-strings-pass-requires
 strings-pass-requires c κs = search laws depth 8
 
--- src/lib.rt:31:26
 enum-known-r : tie.Need-enum-known-r
 enum-known-r c = search laws depth 8
 
--- src/lib.rt:33:41
 enum-told : tie.Need-enum-told
 enum-told c = search laws depth 8
 
--- src/lib.rt:33:41
 frame-of-requires : tie.Need-frame-of-requires
 frame-of-requires c κs = search laws depth 8
 
--- src/lib.rt:33:19
 types-pass-requires : tie.Need-types-pass-requires
 types-pass-requires c κs = search laws depth 8
 
--- src/lib.rt:34:34
 enum-known-r-2 : tie.Need-enum-known-r-2
 enum-known-r-2 c = search laws depth 8
 
--- src/lib.rt:35:38
 enum-told-2 : tie.Need-enum-told-2
 enum-told-2 c = search laws depth 8
 
--- src/lib.rt:35:38
 protos-pass-requires : tie.Need-protos-pass-requires
 protos-pass-requires c κs = search laws depth 8
 
--- src/lib.rt:25:1
 returns : tie.Need-returns
 unfolding namesPass
 returns c = search laws depth 8
 
--- src/lib.rt:25:1
 returns-2 : tie.Need-returns-2
 unfolding namesPass
 returns-2 c = search laws depth 8
 
--- src/lib.rt:25:1
 returns-3 : tie.Need-returns-3
 unfolding namesPass
 returns-3 c = search laws depth 8

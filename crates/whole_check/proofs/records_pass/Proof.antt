@@ -7,32 +7,25 @@ use Rattle.whole_check.proofs.records_pass.Lts as lts
 use Rattle.header.proofs.frame_of.Reads as frame-of-reads
 use Rattle.whole_check.proofs.tables.members_pass.Reads as members-pass-reads
 
--- src/lib.rt:49:9
 frame-of-requires : tie.Need-frame-of-requires
 frame-of-requires c κs = search laws depth 8
 
--- src/lib.rt:50:11
 members-pass-requires : tie.Need-members-pass-requires
 members-pass-requires c κs = search laws depth 8
 
--- src/lib.rt:51:26
 enum-known-r : tie.Need-enum-known-r
 enum-known-r c = search laws depth 8
 
--- src/lib.rt:53:13
 enum-told : tie.Need-enum-told
 enum-told c = search laws depth 8
 
--- src/lib.rt:53:13
 members-pass-requires-2 : tie.Need-members-pass-requires-2
 members-pass-requires-2 c κs = search laws depth 8
 
--- src/lib.rt:42:1
 returns : tie.Need-returns
 unfolding recordsPass
 returns c = search laws depth 8
 
--- src/lib.rt:42:1
 returns-2 : tie.Need-returns-2
 unfolding recordsPass
 returns-2 c = search laws depth 8

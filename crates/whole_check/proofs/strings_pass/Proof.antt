@@ -5,35 +5,27 @@ use Rattle.whole_check.proofs.strings_pass.Reads as reads
 use Rattle.whole_check.proofs.strings_pass.Lts as lts
 use Rattle.string_ids.proofs.look_up.Reads as look-up-reads
 
--- src/lib.rt:18:37
 sub-look-up : tie.Need-sub-look-up
 sub-look-up c = search laws
 
--- src/lib.rt:18:37
 part-look-up-start : tie.Need-part-look-up-start
 part-look-up-start c = search laws
 
--- src/lib.rt:18:37
 part-look-up-end : tie.Need-part-look-up-end
 part-look-up-end c = search laws
 
--- src/lib.rt:18:11
 look-up-requires : tie.Need-look-up-requires
 look-up-requires c κs = search laws
 
--- src/lib.rt:19:37
 enum-known-r : tie.Need-enum-known-r
 enum-known-r c = search laws
 
--- src/lib.rt:20:39
 enum-told : tie.Need-enum-told
 enum-told c = search laws
 
--- src/lib.rt:15:1
 returns : tie.Need-returns
 returns c = search laws
 
--- src/lib.rt:15:1
 returns-2 : tie.Need-returns-2
 returns-2 c = search laws
 

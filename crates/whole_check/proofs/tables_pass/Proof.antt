@@ -8,45 +8,35 @@ use Rattle.whole_check.proofs.items_pass.Reads as items-pass-reads
 use Rattle.whole_check.proofs.names_pass.Reads as names-pass-reads
 use Rattle.whole_check.proofs.records_pass.Reads as records-pass-reads
 
--- src/lib.rt:72:11
 names-pass-requires : tie.Need-names-pass-requires
 names-pass-requires c κs = search laws depth 8
 
--- src/lib.rt:73:26
 enum-known-r : tie.Need-enum-known-r
 enum-known-r c = search laws depth 8
 
--- src/lib.rt:74:36
 enum-told : tie.Need-enum-told
 enum-told c = search laws depth 8
 
--- src/lib.rt:74:36
 records-pass-requires : tie.Need-records-pass-requires
 records-pass-requires c κs = search laws depth 8
 
--- src/lib.rt:75:30
 enum-known-r-2 : tie.Need-enum-known-r-2
 enum-known-r-2 c = search laws depth 8
 
--- src/lib.rt:76:34
 enum-told-2 : tie.Need-enum-told-2
 enum-told-2 c = search laws depth 8
 
--- src/lib.rt:76:34
 items-pass-requires : tie.Need-items-pass-requires
 items-pass-requires c κs = search laws depth 8
 
--- src/lib.rt:69:1
 returns : tie.Need-returns
 unfolding tablesPass
 returns c = search laws depth 8
 
--- src/lib.rt:69:1
 returns-2 : tie.Need-returns-2
 unfolding tablesPass
 returns-2 c = search laws depth 8
 
--- src/lib.rt:69:1
 returns-3 : tie.Need-returns-3
 unfolding tablesPass
 returns-3 c = search laws depth 8

@@ -4,15 +4,12 @@ use Rattle.word.proofs.byte_at.Tie as tie
 use Rattle.word.proofs.byte_at.Reads as reads
 use Rattle.word.proofs.byte_at.Lts as lts
 
--- src/lib.rt:18:16
 shared-slice-read-result : tie.Need-shared-slice-read-result
 shared-slice-read-result c = search laws
 
--- src/lib.rt:18:9
 returns : tie.Need-returns
 returns c = search laws
 
--- src/lib.rt:14:1
 returns-2 : tie.Need-returns-2
 returns-2 c = search laws
 

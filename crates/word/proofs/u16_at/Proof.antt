@@ -6,51 +6,39 @@ use Rattle.word.proofs.u16_at.Lts as lts
 use Rattle.word.proofs.u16_by_bytes.Reads as u16-by-bytes-reads
 use Rattle.word.proofs.u16_low_first.Reads as u16-low-first-reads
 
--- src/lib.rt:104:24
 enum-told : tie.Need-enum-told
 enum-told c = search laws
 
--- src/lib.rt:104:24
 u16-by-bytes-requires : tie.Need-u16-by-bytes-requires
 u16-by-bytes-requires c κs = search laws
 
--- src/lib.rt:106:21
 enum-told-2 : tie.Need-enum-told-2
 enum-told-2 c = search laws
 
--- src/lib.rt:107:26
 sub-if2 : tie.Need-sub-if2
 sub-if2 c = search laws
 
--- src/lib.rt:108:42
 shared-slice-read-u16-low-first : tie.Need-shared-slice-read-u16-low-first
 shared-slice-read-u16-low-first c = search laws
 
--- src/lib.rt:108:51
 add-u16-low-first : tie.Need-add-u16-low-first
 add-u16-low-first c = search laws
 
--- src/lib.rt:108:49
 shared-slice-read-u16-low-first-2 : tie.Need-shared-slice-read-u16-low-first-2
 shared-slice-read-u16-low-first-2 c = search laws
 
--- src/lib.rt:108:21
 u16-low-first-requires : tie.Need-u16-low-first-requires
 u16-low-first-requires c κs = search laws
 
--- src/lib.rt:108:21
 returns : tie.Need-returns
 returns c = search laws
 
--- src/lib.rt:111:13
 u16-by-bytes-requires-2 : tie.Need-u16-by-bytes-requires-2
 u16-by-bytes-requires-2 c κs = search laws
 
--- src/lib.rt:100:1
 returns-2 : tie.Need-returns-2
 returns-2 c = search laws
 
--- src/lib.rt:100:1
 returns-3 : tie.Need-returns-3
 returns-3 c = search laws
 

@@ -6,27 +6,21 @@ use Rattle.word.proofs.u16_by_bytes.Lts as lts
 use Rattle.word.proofs.byte_at.Reads as byte-at-reads
 use Rattle.word.proofs.u16_of.Reads as u16-of-reads
 
--- src/lib.rt:77:9
 returns : tie.Need-returns
 returns c = search laws
 
--- src/lib.rt:79:19
 shared-slice-read-u16-of : tie.Need-shared-slice-read-u16-of
 shared-slice-read-u16-of c = search laws
 
--- src/lib.rt:79:37
 add-byte-at : tie.Need-add-byte-at
 add-byte-at c = search laws
 
--- src/lib.rt:79:26
 byte-at-requires : tie.Need-byte-at-requires
 byte-at-requires c κs = search laws
 
--- src/lib.rt:79:5
 u16-of-requires : tie.Need-u16-of-requires
 u16-of-requires c κs = search laws
 
--- src/lib.rt:73:1
 returns-2 : tie.Need-returns-2
 returns-2 c = search laws
 

@@ -5,31 +5,24 @@ use Rattle.word.proofs.u16_of.Reads as reads
 use Rattle.word.proofs.u16_of.Lts as lts
 use Rattle.word.proofs.u16_low_first.Reads as u16-low-first-reads
 
--- src/lib.rt:57:27
 enum-told : tie.Need-enum-told
 enum-told c = search laws
 
--- src/lib.rt:57:27
 u16-low-first-requires : tie.Need-u16-low-first-requires
 u16-low-first-requires c κs = search laws
 
--- src/lib.rt:58:30
 enum-told-2 : tie.Need-enum-told-2
 enum-told-2 c = search laws
 
--- src/lib.rt:58:24
 mul-result : tie.Need-mul-result
 mul-result c = search laws
 
--- src/lib.rt:58:24
 add-result : tie.Need-add-result
 add-result c = search laws
 
--- src/lib.rt:53:1
 returns : tie.Need-returns
 returns c = search laws
 
--- src/lib.rt:53:1
 returns-2 : tie.Need-returns-2
 returns-2 c = search laws
 

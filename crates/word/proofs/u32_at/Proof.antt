@@ -6,67 +6,51 @@ use Rattle.word.proofs.u32_at.Lts as lts
 use Rattle.word.proofs.u32_by_bytes.Reads as u32-by-bytes-reads
 use Rattle.word.proofs.u32_low_first.Reads as u32-low-first-reads
 
--- src/lib.rt:121:24
 enum-told : tie.Need-enum-told
 enum-told c = search laws
 
--- src/lib.rt:121:24
 u32-by-bytes-requires : tie.Need-u32-by-bytes-requires
 u32-by-bytes-requires c κs = search laws
 
--- src/lib.rt:123:21
 enum-told-2 : tie.Need-enum-told-2
 enum-told-2 c = search laws
 
--- src/lib.rt:124:26
 sub-if2 : tie.Need-sub-if2
 sub-if2 c = search laws
 
--- src/lib.rt:125:42
 shared-slice-read-u32-low-first : tie.Need-shared-slice-read-u32-low-first
 shared-slice-read-u32-low-first c = search laws
 
--- src/lib.rt:125:51
 add-u32-low-first : tie.Need-add-u32-low-first
 add-u32-low-first c = search laws
 
--- src/lib.rt:125:49
 shared-slice-read-u32-low-first-2 : tie.Need-shared-slice-read-u32-low-first-2
 shared-slice-read-u32-low-first-2 c = search laws
 
--- src/lib.rt:125:62
 add-u32-low-first-2 : tie.Need-add-u32-low-first-2
 add-u32-low-first-2 c = search laws
 
--- src/lib.rt:125:60
 shared-slice-read-u32-low-first-3 : tie.Need-shared-slice-read-u32-low-first-3
 shared-slice-read-u32-low-first-3 c = search laws
 
--- src/lib.rt:125:73
 add-u32-low-first-3 : tie.Need-add-u32-low-first-3
 add-u32-low-first-3 c = search laws
 
--- src/lib.rt:125:71
 shared-slice-read-u32-low-first-4 : tie.Need-shared-slice-read-u32-low-first-4
 shared-slice-read-u32-low-first-4 c = search laws
 
--- src/lib.rt:125:21
 u32-low-first-requires : tie.Need-u32-low-first-requires
 u32-low-first-requires c κs = search laws
 
--- src/lib.rt:125:21
 returns : tie.Need-returns
 returns c = search laws
 
--- src/lib.rt:128:13
 u32-by-bytes-requires-2 : tie.Need-u32-by-bytes-requires-2
 u32-by-bytes-requires-2 c κs = search laws
 
--- src/lib.rt:117:1
 returns-2 : tie.Need-returns-2
 returns-2 c = search laws
 
--- src/lib.rt:117:1
 returns-3 : tie.Need-returns-3
 returns-3 c = search laws
 

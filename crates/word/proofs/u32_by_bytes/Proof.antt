@@ -6,43 +6,33 @@ use Rattle.word.proofs.u32_by_bytes.Lts as lts
 use Rattle.word.proofs.byte_at.Reads as byte-at-reads
 use Rattle.word.proofs.u32_of.Reads as u32-of-reads
 
--- src/lib.rt:87:9
 returns : tie.Need-returns
 returns c = search laws
 
--- src/lib.rt:91:9
 shared-slice-read-u32-of : tie.Need-shared-slice-read-u32-of
 shared-slice-read-u32-of c = search laws
 
--- src/lib.rt:92:20
 add-byte-at : tie.Need-add-byte-at
 add-byte-at c = search laws
 
--- src/lib.rt:92:9
 byte-at-requires : tie.Need-byte-at-requires
 byte-at-requires c κs = search laws
 
--- src/lib.rt:93:20
 add-byte-at-2 : tie.Need-add-byte-at-2
 add-byte-at-2 c = search laws
 
--- src/lib.rt:93:9
 byte-at-requires-2 : tie.Need-byte-at-requires-2
 byte-at-requires-2 c κs = search laws
 
--- src/lib.rt:94:20
 add-byte-at-3 : tie.Need-add-byte-at-3
 add-byte-at-3 c = search laws
 
--- src/lib.rt:94:9
 byte-at-requires-3 : tie.Need-byte-at-requires-3
 byte-at-requires-3 c κs = search laws
 
--- src/lib.rt:89:5
 u32-of-requires : tie.Need-u32-of-requires
 u32-of-requires c κs = search laws
 
--- src/lib.rt:83:1
 returns-2 : tie.Need-returns-2
 returns-2 c = search laws
 

@@ -5,47 +5,36 @@ use Rattle.word.proofs.u32_of.Reads as reads
 use Rattle.word.proofs.u32_of.Lts as lts
 use Rattle.word.proofs.u32_low_first.Reads as u32-low-first-reads
 
--- src/lib.rt:67:27
 enum-told : tie.Need-enum-told
 enum-told c = search laws
 
--- src/lib.rt:67:27
 u32-low-first-requires : tie.Need-u32-low-first-requires
 u32-low-first-requires c κs = search laws
 
--- src/lib.rt:68:35
 enum-told-2 : tie.Need-enum-told-2
 enum-told-2 c = search laws
 
--- src/lib.rt:68:24
 mul-result : tie.Need-mul-result
 mul-result c = search laws
 
--- src/lib.rt:68:46
 mul-result-2 : tie.Need-mul-result-2
 mul-result-2 c = search laws
 
--- src/lib.rt:68:24
 add-result : tie.Need-add-result
 add-result c = search laws
 
--- src/lib.rt:68:65
 mul-result-3 : tie.Need-mul-result-3
 mul-result-3 c = search laws
 
--- src/lib.rt:68:24
 add-result-2 : tie.Need-add-result-2
 add-result-2 c = search laws
 
--- src/lib.rt:68:24
 add-result-3 : tie.Need-add-result-3
 add-result-3 c = search laws
 
--- src/lib.rt:63:1
 returns : tie.Need-returns
 returns c = search laws
 
--- src/lib.rt:63:1
 returns-2 : tie.Need-returns-2
 returns-2 c = search laws
 

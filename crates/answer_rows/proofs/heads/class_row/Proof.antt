@@ -6,27 +6,21 @@ use Rattle.answer_rows.proofs.heads.class_row.Lts as lts
 use Rattle.answer_rows.proofs.heads.whole_class.Reads as whole-class-reads
 use Rattle.answer_rows.proofs.words.refused.Reads as refused-reads
 
--- src/heads.rt:134:30
 enum-known-a : tie.Need-enum-known-a
 enum-known-a c = search laws
 
--- src/heads.rt:134:36
 refused-requires : tie.Need-refused-requires
 refused-requires c κs = search laws
 
--- src/heads.rt:135:26
 enum-known-a-2 : tie.Need-enum-known-a-2
 enum-known-a-2 c = search laws
 
--- src/heads.rt:135:32
 whole-class-requires : tie.Need-whole-class-requires
 whole-class-requires c κs = search laws
 
--- src/heads.rt:130:1
 returns : tie.Need-returns
 returns c = search laws
 
--- src/heads.rt:130:1
 returns-2 : tie.Need-returns-2
 returns-2 c = search laws
 

@@ -6,27 +6,21 @@ use Rattle.answer_rows.proofs.heads.header_row.Lts as lts
 use Rattle.answer_rows.proofs.heads.whole_header.Reads as whole-header-reads
 use Rattle.answer_rows.proofs.words.refused.Reads as refused-reads
 
--- src/heads.rt:80:31
 enum-known-a : tie.Need-enum-known-a
 enum-known-a c = search laws
 
--- src/heads.rt:80:37
 refused-requires : tie.Need-refused-requires
 refused-requires c κs = search laws
 
--- src/heads.rt:81:27
 enum-known-a-2 : tie.Need-enum-known-a-2
 enum-known-a-2 c = search laws
 
--- src/heads.rt:81:33
 whole-header-requires : tie.Need-whole-header-requires
 whole-header-requires c κs = search laws
 
--- src/heads.rt:76:1
 returns : tie.Need-returns
 returns c = search laws
 
--- src/heads.rt:76:1
 returns-2 : tie.Need-returns-2
 returns-2 c = search laws
 

@@ -5,31 +5,24 @@ use Rattle.answer_rows.proofs.heads.joined_row.Tie as tie
 use Rattle.answer_rows.proofs.heads.joined_row.Reads as reads
 use Rattle.answer_rows.proofs.heads.joined_row.Lts as lts
 
--- src/heads.rt:100:9
 cast-t4 : tie.Need-cast-t4
 cast-t4 c = search laws
 
--- src/heads.rt:101:9
 cast-t5 : tie.Need-cast-t5
 cast-t5 c = search laws
 
--- src/heads.rt:103:9
 cast-t6 : tie.Need-cast-t6
 cast-t6 c = search laws
 
--- src/heads.rt:105:9
 cast-t7 : tie.Need-cast-t7
 cast-t7 c = search laws
 
--- src/heads.rt:106:9
 cast-t8 : tie.Need-cast-t8
 cast-t8 c = search laws
 
--- src/heads.rt:107:9
 cast-t9 : tie.Need-cast-t9
 cast-t9 c = search laws
 
--- src/heads.rt:95:1
 returns : tie.Need-returns
 unfolding joined-words
 returns c = search laws

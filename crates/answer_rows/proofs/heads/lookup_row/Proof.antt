@@ -7,43 +7,33 @@ use Rattle.answer_rows.proofs.words.absent.Reads as absent-reads
 use Rattle.answer_rows.proofs.words.one.Reads as one-reads
 use Rattle.answer_rows.proofs.words.refused.Reads as refused-reads
 
--- src/heads.rt:143:25
 enum-known-a : tie.Need-enum-known-a
 enum-known-a c = search laws
 
--- src/heads.rt:143:31
 refused-requires : tie.Need-refused-requires
 refused-requires c κs = search laws
 
--- src/heads.rt:144:21
 enum-known-a-2 : tie.Need-enum-known-a-2
 enum-known-a-2 c = search laws
 
--- src/heads.rt:145:31
 enum-told : tie.Need-enum-told
 enum-told c = search laws
 
--- src/heads.rt:145:31
 absent-requires : tie.Need-absent-requires
 absent-requires c κs = search laws
 
--- src/heads.rt:146:27
 enum-known-o : tie.Need-enum-known-o
 enum-known-o c = search laws
 
--- src/heads.rt:146:33
 one-requires : tie.Need-one-requires
 one-requires c κs = search laws
 
--- src/heads.rt:139:1
 returns : tie.Need-returns
 returns c = search laws
 
--- src/heads.rt:139:1
 returns-2 : tie.Need-returns-2
 returns-2 c = search laws
 
--- src/heads.rt:139:1
 returns-3 : tie.Need-returns-3
 returns-3 c = search laws
 

@@ -6,19 +6,15 @@ use Rattle.answer_rows.proofs.heads.whole_class.Lts as lts
 use Rattle.answer_rows.proofs.heads.joined_row.Reads as joined-row-reads
 use Rattle.answer_rows.proofs.heads.maybe_word.Reads as maybe-word-reads
 
--- src/heads.rt:127:19
 maybe-word-requires : tie.Need-maybe-word-requires
 maybe-word-requires c κs = search laws
 
--- src/heads.rt:127:43
 maybe-word-requires-2 : tie.Need-maybe-word-requires-2
 maybe-word-requires-2 c κs = search laws
 
--- src/heads.rt:127:5
 joined-row-requires : tie.Need-joined-row-requires
 joined-row-requires c κs = search laws
 
--- src/heads.rt:122:1
 returns : tie.Need-returns
 returns c = search laws
 

@@ -6,15 +6,12 @@ use Rattle.answer_rows.proofs.heads.whole_header.Lts as lts
 use Rattle.answer_rows.proofs.heads.order_word.Reads as order-word-reads
 use Rattle.answer_rows.proofs.heads.ordered_row.Reads as ordered-row-reads
 
--- src/heads.rt:73:20
 order-word-requires : tie.Need-order-word-requires
 order-word-requires c κs = search laws
 
--- src/heads.rt:73:5
 ordered-row-requires : tie.Need-ordered-row-requires
 ordered-row-requires c κs = search laws
 
--- src/heads.rt:69:1
 returns : tie.Need-returns
 returns c = search laws
 

@@ -6,27 +6,21 @@ use Rattle.answer_rows.proofs.members.cover_row.Lts as lts
 use Rattle.answer_rows.proofs.members.covered.Reads as covered-reads
 use Rattle.answer_rows.proofs.words.refused.Reads as refused-reads
 
--- src/members.rt:166:41
 enum-known-a : tie.Need-enum-known-a
 enum-known-a c = search laws
 
--- src/members.rt:166:47
 refused-requires : tie.Need-refused-requires
 refused-requires c κs = search laws
 
--- src/members.rt:167:37
 enum-known-a-2 : tie.Need-enum-known-a-2
 enum-known-a-2 c = search laws
 
--- src/members.rt:167:43
 covered-requires : tie.Need-covered-requires
 covered-requires c κs = search laws
 
--- src/members.rt:162:1
 returns : tie.Need-returns
 returns c = search laws
 
--- src/members.rt:162:1
 returns-2 : tie.Need-returns-2
 returns-2 c = search laws
 

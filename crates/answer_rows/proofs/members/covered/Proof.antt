@@ -6,27 +6,21 @@ use Rattle.answer_rows.proofs.members.covered.Lts as lts
 use Rattle.answer_rows.proofs.words.absent.Reads as absent-reads
 use Rattle.answer_rows.proofs.words.one.Reads as one-reads
 
--- src/members.rt:67:27
 enum-told : tie.Need-enum-told
 enum-told c = search laws
 
--- src/members.rt:67:27
 absent-requires : tie.Need-absent-requires
 absent-requires c κs = search laws
 
--- src/members.rt:68:23
 enum-known-c : tie.Need-enum-known-c
 enum-known-c c = search laws
 
--- src/members.rt:68:29
 one-requires : tie.Need-one-requires
 one-requires c κs = search laws
 
--- src/members.rt:63:1
 returns : tie.Need-returns
 returns c = search laws
 
--- src/members.rt:63:1
 returns-2 : tie.Need-returns-2
 returns-2 c = search laws
 

@@ -7,47 +7,36 @@ use Rattle.answer_rows.proofs.words.absent.Reads as absent-reads
 use Rattle.answer_rows.proofs.words.four.Reads as four-reads
 use Rattle.answer_rows.proofs.words.refused.Reads as refused-reads
 
--- src/members.rt:146:44
 enum-known-a : tie.Need-enum-known-a
 enum-known-a c = search laws
 
--- src/members.rt:146:50
 refused-requires : tie.Need-refused-requires
 refused-requires c κs = search laws
 
--- src/members.rt:147:46
 enum-told : tie.Need-enum-told
 enum-told c = search laws
 
--- src/members.rt:147:46
 absent-requires : tie.Need-absent-requires
 absent-requires c κs = search laws
 
--- src/members.rt:148:42
 enum-known-a-2 : tie.Need-enum-known-a-2
 enum-known-a-2 c = search laws
 
--- src/members.rt:148:86
 cast-four : tie.Need-cast-four
 cast-four c = search laws
 
--- src/members.rt:148:99
 cast-four-2 : tie.Need-cast-four-2
 cast-four-2 c = search laws
 
--- src/members.rt:148:74
 four-requires : tie.Need-four-requires
 four-requires c κs = search laws
 
--- src/members.rt:142:1
 returns : tie.Need-returns
 returns c = search laws
 
--- src/members.rt:142:1
 returns-2 : tie.Need-returns-2
 returns-2 c = search laws
 
--- src/members.rt:142:1
 returns-3 : tie.Need-returns-3
 returns-3 c = search laws
 

@@ -8,47 +8,36 @@ use Rattle.answer_rows.proofs.words.absent.Reads as absent-reads
 use Rattle.answer_rows.proofs.words.four.Reads as four-reads
 use Rattle.answer_rows.proofs.words.refused.Reads as refused-reads
 
--- src/members.rt:126:46
 enum-known-a : tie.Need-enum-known-a
 enum-known-a c = search laws
 
--- src/members.rt:126:52
 refused-requires : tie.Need-refused-requires
 refused-requires c κs = search laws
 
--- src/members.rt:127:48
 enum-told : tie.Need-enum-told
 enum-told c = search laws
 
--- src/members.rt:127:48
 absent-requires : tie.Need-absent-requires
 absent-requires c κs = search laws
 
--- src/members.rt:128:44
 enum-known-a-2 : tie.Need-enum-known-a-2
 enum-known-a-2 c = search laws
 
--- src/members.rt:128:95
 cast-four : tie.Need-cast-four
 cast-four c = search laws
 
--- src/members.rt:128:109
 catch-word-requires : tie.Need-catch-word-requires
 catch-word-requires c κs = search laws
 
--- src/members.rt:128:68
 four-requires : tie.Need-four-requires
 four-requires c κs = search laws
 
--- src/members.rt:122:1
 returns : tie.Need-returns
 returns c = search laws
 
--- src/members.rt:122:1
 returns-2 : tie.Need-returns-2
 returns-2 c = search laws
 
--- src/members.rt:122:1
 returns-3 : tie.Need-returns-3
 returns-3 c = search laws
 

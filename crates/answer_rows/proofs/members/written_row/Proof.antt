@@ -7,39 +7,30 @@ use Rattle.answer_rows.proofs.words.absent.Reads as absent-reads
 use Rattle.answer_rows.proofs.words.four.Reads as four-reads
 use Rattle.answer_rows.proofs.words.refused.Reads as refused-reads
 
--- src/members.rt:96:44
 enum-known-a : tie.Need-enum-known-a
 enum-known-a c = search laws
 
--- src/members.rt:96:50
 refused-requires : tie.Need-refused-requires
 refused-requires c κs = search laws
 
--- src/members.rt:97:46
 enum-told : tie.Need-enum-told
 enum-told c = search laws
 
--- src/members.rt:97:46
 absent-requires : tie.Need-absent-requires
 absent-requires c κs = search laws
 
--- src/members.rt:98:40
 enum-known-a-2 : tie.Need-enum-known-a-2
 enum-known-a-2 c = search laws
 
--- src/members.rt:98:46
 four-requires : tie.Need-four-requires
 four-requires c κs = search laws
 
--- src/members.rt:92:1
 returns : tie.Need-returns
 returns c = search laws
 
--- src/members.rt:92:1
 returns-2 : tie.Need-returns-2
 returns-2 c = search laws
 
--- src/members.rt:92:1
 returns-3 : tie.Need-returns-3
 returns-3 c = search laws
 

@@ -6,27 +6,21 @@ use Rattle.answer_rows.proofs.notes.checked_row.Lts as lts
 use Rattle.answer_rows.proofs.words.four.Reads as four-reads
 use Rattle.answer_rows.proofs.words.refused.Reads as refused-reads
 
--- src/notes.rt:13:35
 enum-known-a : tie.Need-enum-known-a
 enum-known-a c = search laws
 
--- src/notes.rt:13:41
 refused-requires : tie.Need-refused-requires
 refused-requires c κs = search laws
 
--- src/notes.rt:14:39
 enum-told : tie.Need-enum-told
 enum-told c = search laws
 
--- src/notes.rt:14:39
 four-requires : tie.Need-four-requires
 four-requires c κs = search laws
 
--- src/notes.rt:9:1
 returns : tie.Need-returns
 returns c = search laws
 
--- src/notes.rt:9:1
 returns-2 : tie.Need-returns-2
 returns-2 c = search laws
 

@@ -6,31 +6,24 @@ use Rattle.answer_rows.proofs.rows.array_row.Lts as lts
 use Rattle.answer_rows.proofs.words.four.Reads as four-reads
 use Rattle.answer_rows.proofs.words.refused.Reads as refused-reads
 
--- src/rows.rt:115:45
 enum-known-a : tie.Need-enum-known-a
 enum-known-a c = search laws
 
--- src/rows.rt:115:51
 refused-requires : tie.Need-refused-requires
 refused-requires c κs = search laws
 
--- src/rows.rt:116:43
 enum-known-a-2 : tie.Need-enum-known-a-2
 enum-known-a-2 c = search laws
 
--- src/rows.rt:116:74
 cast-four : tie.Need-cast-four
 cast-four c = search laws
 
--- src/rows.rt:116:62
 four-requires : tie.Need-four-requires
 four-requires c κs = search laws
 
--- src/rows.rt:111:1
 returns : tie.Need-returns
 returns c = search laws
 
--- src/rows.rt:111:1
 returns-2 : tie.Need-returns-2
 returns-2 c = search laws
 

@@ -6,27 +6,21 @@ use Rattle.answer_rows.proofs.rows.element_row.Lts as lts
 use Rattle.answer_rows.proofs.words.refused.Reads as refused-reads
 use Rattle.answer_rows.proofs.words.value.Reads as value-reads
 
--- src/rows.rt:151:40
 enum-known-a : tie.Need-enum-known-a
 enum-known-a c = search laws
 
--- src/rows.rt:151:46
 refused-requires : tie.Need-refused-requires
 refused-requires c κs = search laws
 
--- src/rows.rt:152:38
 enum-known-a-2 : tie.Need-enum-known-a-2
 enum-known-a-2 c = search laws
 
--- src/rows.rt:152:55
 value-requires : tie.Need-value-requires
 value-requires c κs = search laws
 
--- src/rows.rt:147:1
 returns : tie.Need-returns
 returns c = search laws
 
--- src/rows.rt:147:1
 returns-2 : tie.Need-returns-2
 returns-2 c = search laws
 

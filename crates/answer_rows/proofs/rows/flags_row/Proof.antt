@@ -6,27 +6,21 @@ use Rattle.answer_rows.proofs.rows.flags_row.Lts as lts
 use Rattle.answer_rows.proofs.words.four.Reads as four-reads
 use Rattle.answer_rows.proofs.words.refused.Reads as refused-reads
 
--- src/rows.rt:106:44
 enum-known-a : tie.Need-enum-known-a
 enum-known-a c = search laws
 
--- src/rows.rt:106:50
 refused-requires : tie.Need-refused-requires
 refused-requires c κs = search laws
 
--- src/rows.rt:107:40
 enum-known-a-2 : tie.Need-enum-known-a-2
 enum-known-a-2 c = search laws
 
--- src/rows.rt:107:46
 four-requires : tie.Need-four-requires
 four-requires c κs = search laws
 
--- src/rows.rt:102:1
 returns : tie.Need-returns
 returns c = search laws
 
--- src/rows.rt:102:1
 returns-2 : tie.Need-returns-2
 returns-2 c = search laws
 

@@ -6,35 +6,27 @@ use Rattle.answer_rows.proofs.rows.handle_row.Lts as lts
 use Rattle.answer_rows.proofs.words.four.Reads as four-reads
 use Rattle.answer_rows.proofs.words.refused.Reads as refused-reads
 
--- src/rows.rt:43:36
 enum-known-a : tie.Need-enum-known-a
 enum-known-a c = search laws
 
--- src/rows.rt:43:42
 refused-requires : tie.Need-refused-requires
 refused-requires c κs = search laws
 
--- src/rows.rt:44:32
 enum-known-a-2 : tie.Need-enum-known-a-2
 enum-known-a-2 c = search laws
 
--- src/rows.rt:44:50
 cast-four : tie.Need-cast-four
 cast-four c = search laws
 
--- src/rows.rt:44:65
 cast-four-2 : tie.Need-cast-four-2
 cast-four-2 c = search laws
 
--- src/rows.rt:44:38
 four-requires : tie.Need-four-requires
 four-requires c κs = search laws
 
--- src/rows.rt:39:1
 returns : tie.Need-returns
 returns c = search laws
 
--- src/rows.rt:39:1
 returns-2 : tie.Need-returns-2
 returns-2 c = search laws
 

@@ -6,39 +6,30 @@ use Rattle.answer_rows.proofs.rows.member_row.Lts as lts
 use Rattle.answer_rows.proofs.words.four.Reads as four-reads
 use Rattle.answer_rows.proofs.words.refused.Reads as refused-reads
 
--- src/rows.rt:79:36
 enum-known-a : tie.Need-enum-known-a
 enum-known-a c = search laws
 
--- src/rows.rt:79:42
 refused-requires : tie.Need-refused-requires
 refused-requires c κs = search laws
 
--- src/rows.rt:80:32
 enum-known-a-2 : tie.Need-enum-known-a-2
 enum-known-a-2 c = search laws
 
--- src/rows.rt:80:50
 cast-four : tie.Need-cast-four
 cast-four c = search laws
 
--- src/rows.rt:80:66
 cast-four-2 : tie.Need-cast-four-2
 cast-four-2 c = search laws
 
--- src/rows.rt:80:81
 cast-four-3 : tie.Need-cast-four-3
 cast-four-3 c = search laws
 
--- src/rows.rt:80:38
 four-requires : tie.Need-four-requires
 four-requires c κs = search laws
 
--- src/rows.rt:75:1
 returns : tie.Need-returns
 returns c = search laws
 
--- src/rows.rt:75:1
 returns-2 : tie.Need-returns-2
 returns-2 c = search laws
 

@@ -5,15 +5,12 @@ use Rattle.answer_rows.proofs.words.short_bits.Reads as reads
 use Rattle.answer_rows.proofs.words.short_bits.Lts as lts
 use Rattle.answer_rows.proofs.words.bits.Reads as bits-reads
 
--- src/words.rt:54:10
 cast-bits : tie.Need-cast-bits
 cast-bits c = search laws
 
--- src/words.rt:54:5
 bits-requires : tie.Need-bits-requires
 bits-requires c κs = search laws
 
--- src/words.rt:51:1
 returns : tie.Need-returns
 returns c = search laws
 

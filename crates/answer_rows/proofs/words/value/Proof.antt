@@ -10,183 +10,138 @@ use Rattle.answer_rows.proofs.words.int_bits.Reads as int-bits-reads
 use Rattle.answer_rows.proofs.words.short_bits.Reads as short-bits-reads
 use Rattle.answer_rows.proofs.words.truth_word.Reads as truth-word-reads
 
--- src/words.rt:77:21
 enum-known-v : tie.Need-enum-known-v
 enum-known-v c = search laws
 
--- src/words.rt:77:35
 byte-bits-requires : tie.Need-byte-bits-requires
 byte-bits-requires c κs = search laws
 
--- src/words.rt:77:27
 four-requires : tie.Need-four-requires
 four-requires c κs = search laws
 
--- src/words.rt:78:22
 enum-known-v-2 : tie.Need-enum-known-v-2
 enum-known-v-2 c = search laws
 
--- src/words.rt:78:36
 short-bits-requires : tie.Need-short-bits-requires
 short-bits-requires c κs = search laws
 
--- src/words.rt:78:28
 four-requires-2 : tie.Need-four-requires-2
 four-requires-2 c κs = search laws
 
--- src/words.rt:79:21
 enum-known-v-3 : tie.Need-enum-known-v-3
 enum-known-v-3 c = search laws
 
--- src/words.rt:79:35
 cast-four : tie.Need-cast-four
 cast-four c = search laws
 
--- src/words.rt:79:27
 four-requires-3 : tie.Need-four-requires-3
 four-requires-3 c κs = search laws
 
--- src/words.rt:80:20
 enum-known-v-4 : tie.Need-enum-known-v-4
 enum-known-v-4 c = search laws
 
--- src/words.rt:80:34
 int-bits-requires : tie.Need-int-bits-requires
 int-bits-requires c κs = search laws
 
--- src/words.rt:80:26
 four-requires-4 : tie.Need-four-requires-4
 four-requires-4 c κs = search laws
 
--- src/words.rt:81:21
 enum-known-v-5 : tie.Need-enum-known-v-5
 enum-known-v-5 c = search laws
 
--- src/words.rt:81:35
 bits-requires : tie.Need-bits-requires
 bits-requires c κs = search laws
 
--- src/words.rt:81:27
 four-requires-5 : tie.Need-four-requires-5
 four-requires-5 c κs = search laws
 
--- src/words.rt:82:24
 enum-known-v-6 : tie.Need-enum-known-v-6
 enum-known-v-6 c = search laws
 
--- src/words.rt:82:53
 cast-four-2 : tie.Need-cast-four-2
 cast-four-2 c = search laws
 
--- src/words.rt:82:44
 four-requires-6 : tie.Need-four-requires-6
 four-requires-6 c κs = search laws
 
--- src/words.rt:83:25
 enum-known-v-7 : tie.Need-enum-known-v-7
 enum-known-v-7 c = search laws
 
--- src/words.rt:83:45
 four-requires-7 : tie.Need-four-requires-7
 four-requires-7 c κs = search laws
 
--- src/words.rt:84:24
 enum-known-v-8 : tie.Need-enum-known-v-8
 enum-known-v-8 c = search laws
 
--- src/words.rt:84:47
 cast-four-3 : tie.Need-cast-four-3
 cast-four-3 c = search laws
 
--- src/words.rt:84:60
 cast-four-4 : tie.Need-cast-four-4
 cast-four-4 c = search laws
 
--- src/words.rt:84:42
 four-requires-8 : tie.Need-four-requires-8
 four-requires-8 c κs = search laws
 
--- src/words.rt:85:24
 enum-known-v-9 : tie.Need-enum-known-v-9
 enum-known-v-9 c = search laws
 
--- src/words.rt:85:44
 four-requires-9 : tie.Need-four-requires-9
 four-requires-9 c κs = search laws
 
--- src/words.rt:86:29
 enum-known-v-10 : tie.Need-enum-known-v-10
 enum-known-v-10 c = search laws
 
--- src/words.rt:86:49
 four-requires-10 : tie.Need-four-requires-10
 four-requires-10 c κs = search laws
 
--- src/words.rt:87:39
 enum-told : tie.Need-enum-told
 enum-told c = search laws
 
--- src/words.rt:87:24
 four-requires-11 : tie.Need-four-requires-11
 four-requires-11 c κs = search laws
 
--- src/words.rt:88:24
 enum-known-v-11 : tie.Need-enum-known-v-11
 enum-known-v-11 c = search laws
 
--- src/words.rt:88:39
 truth-word-requires : tie.Need-truth-word-requires
 truth-word-requires c κs = search laws
 
--- src/words.rt:88:30
 four-requires-12 : tie.Need-four-requires-12
 four-requires-12 c κs = search laws
 
--- src/words.rt:73:1
 returns : tie.Need-returns
 returns c = search laws
 
--- src/words.rt:73:1
 returns-2 : tie.Need-returns-2
 returns-2 c = search laws
 
--- src/words.rt:73:1
 returns-3 : tie.Need-returns-3
 returns-3 c = search laws
 
--- src/words.rt:73:1
 returns-4 : tie.Need-returns-4
 returns-4 c = search laws
 
--- src/words.rt:73:1
 returns-5 : tie.Need-returns-5
 returns-5 c = search laws
 
--- src/words.rt:73:1
 returns-6 : tie.Need-returns-6
 returns-6 c = search laws
 
--- src/words.rt:73:1
 returns-7 : tie.Need-returns-7
 returns-7 c = search laws
 
--- src/words.rt:73:1
 returns-8 : tie.Need-returns-8
 returns-8 c = search laws
 
--- src/words.rt:73:1
 returns-9 : tie.Need-returns-9
 returns-9 c = search laws
 
--- src/words.rt:73:1
 returns-10 : tie.Need-returns-10
 returns-10 c = search laws
 
--- src/words.rt:73:1
 returns-11 : tie.Need-returns-11
 returns-11 c = search laws
 
--- src/words.rt:73:1
 returns-12 : tie.Need-returns-12
 returns-12 c = search laws
 

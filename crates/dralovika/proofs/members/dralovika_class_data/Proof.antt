@@ -6,15 +6,12 @@ use Rattle.dralovika.proofs.members.dralovika_class_data.Lts as lts
 use Rattle.answer_rows.proofs.data_row.Reads as data-row-reads
 use Rattle.class_readers.proofs.class_data.Reads as class-data-reads
 
--- src/members.rt:14:34
 class-data-requires : tie.Need-class-data-requires
 class-data-requires c κs = search laws
 
--- src/members.rt:14:12
 data-row-requires : tie.Need-data-row-requires
 data-row-requires c κs = search laws
 
--- src/members.rt:10:1
 returns : tie.Need-returns
 returns c = search laws
 

@@ -6,15 +6,12 @@ use Rattle.dralovika.proofs.members.dralovika_debug.Lts as lts
 use Rattle.answer_rows.proofs.debug_row.Reads as debug-row-reads
 use Rattle.debug_readers.proofs.debug.Reads as debug-reads
 
--- src/members.rt:93:35
 debug-requires : tie.Need-debug-requires
 debug-requires c κs = search laws
 
--- src/members.rt:93:12
 debug-row-requires : tie.Need-debug-row-requires
 debug-row-requires c κs = search laws
 
--- src/members.rt:89:1
 returns : tie.Need-returns
 returns c = search laws
 

@@ -6,15 +6,12 @@ use Rattle.dralovika.proofs.members.dralovika_debug_parameter.Lts as lt
 use Rattle.answer_rows.proofs.name_row.Reads as name-row-reads
 use Rattle.debug_readers.proofs.debug_parameter.Reads as debug-parameter-reads
 
--- src/members.rt:101:34
 debug-parameter-requires : tie.Need-debug-parameter-requires
 debug-parameter-requires c κs = search laws
 
--- src/members.rt:101:12
 name-row-requires : tie.Need-name-row-requires
 name-row-requires c κs = search laws
 
--- src/members.rt:97:1
 returns : tie.Need-returns
 returns c = search laws
 

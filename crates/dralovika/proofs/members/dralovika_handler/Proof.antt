@@ -6,15 +6,12 @@ use Rattle.dralovika.proofs.members.dralovika_handler.Lts as lts
 use Rattle.answer_rows.proofs.handler_row.Reads as handler-row-reads
 use Rattle.code_readers.proofs.handler.Reads as handler-reads
 
--- src/members.rt:77:37
 handler-requires : tie.Need-handler-requires
 handler-requires c κs = search laws
 
--- src/members.rt:77:12
 handler-row-requires : tie.Need-handler-row-requires
 handler-row-requires c κs = search laws
 
--- src/members.rt:73:1
 returns : tie.Need-returns
 returns c = search laws
 

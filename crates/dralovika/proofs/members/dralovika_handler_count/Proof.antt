@@ -6,15 +6,12 @@ use Rattle.dralovika.proofs.members.dralovika_handler_count.Lts as lts
 use Rattle.answer_rows.proofs.written_row.Reads as written-row-reads
 use Rattle.code_readers.proofs.handler_count.Reads as handler-count-reads
 
--- src/members.rt:70:37
 handler-count-requires : tie.Need-handler-count-requires
 handler-count-requires c κs = search laws
 
--- src/members.rt:70:12
 written-row-requires : tie.Need-written-row-requires
 written-row-requires c κs = search laws
 
--- src/members.rt:66:1
 returns : tie.Need-returns
 returns c = search laws
 

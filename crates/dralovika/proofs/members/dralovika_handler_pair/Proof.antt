@@ -6,15 +6,12 @@ use Rattle.dralovika.proofs.members.dralovika_handler_pair.Lts as lts
 use Rattle.answer_rows.proofs.pair_row.Reads as pair-row-reads
 use Rattle.code_readers.proofs.handler_pair.Reads as handler-pair-reads
 
--- src/members.rt:85:34
 handler-pair-requires : tie.Need-handler-pair-requires
 handler-pair-requires c κs = search laws
 
--- src/members.rt:85:12
 pair-row-requires : tie.Need-pair-row-requires
 pair-row-requires c κs = search laws
 
--- src/members.rt:81:1
 returns : tie.Need-returns
 returns c = search laws
 

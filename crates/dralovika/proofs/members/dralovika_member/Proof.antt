@@ -6,15 +6,12 @@ use Rattle.dralovika.proofs.members.dralovika_member.Lts as lts
 use Rattle.answer_rows.proofs.found_row.Reads as found-row-reads
 use Rattle.class_readers.proofs.member.Reads as member-reads
 
--- src/members.rt:22:35
 member-requires : tie.Need-member-requires
 member-requires c κs = search laws
 
--- src/members.rt:22:12
 found-row-requires : tie.Need-found-row-requires
 found-row-requires c κs = search laws
 
--- src/members.rt:18:1
 returns : tie.Need-returns
 returns c = search laws
 

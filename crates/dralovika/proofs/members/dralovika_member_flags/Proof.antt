@@ -6,19 +6,15 @@ use Rattle.dralovika.proofs.members.dralovika_member_flags.Lts as lts
 use Rattle.answer_rows.proofs.written_row.Reads as written-row-reads
 use Rattle.class_readers.proofs.member_flags.Reads as member-flags-reads
 
--- src/members.rt:31:37
 member-flags-requires : tie.Need-member-flags-requires
 member-flags-requires c κs = search laws
 
--- src/members.rt:31:12
 written-row-requires : tie.Need-written-row-requires
 written-row-requires c κs = search laws
 
--- src/members.rt:26:1
 same-length : tie.Need-same-length
 same-length c = search laws
 
--- src/members.rt:26:1
 returns : tie.Need-returns
 returns c = search laws
 

@@ -6,15 +6,12 @@ use Rattle.dralovika.proofs.members.dralovika_try_item.Lts as lts
 use Rattle.answer_rows.proofs.try_row.Reads as try-row-reads
 use Rattle.code_readers.proofs.try_item.Reads as try-item-reads
 
--- src/members.rt:55:33
 try-item-requires : tie.Need-try-item-requires
 try-item-requires c κs = search laws
 
--- src/members.rt:55:12
 try-row-requires : tie.Need-try-row-requires
 try-row-requires c κs = search laws
 
--- src/members.rt:51:1
 returns : tie.Need-returns
 returns c = search laws
 

@@ -6,19 +6,15 @@ use Rattle.dralovika.proofs.members.dralovika_units.Lts as lts
 use Rattle.answer_rows.proofs.written_row.Reads as written-row-reads
 use Rattle.code_readers.proofs.units.Reads as units-reads
 
--- src/members.rt:48:37
 units-requires : tie.Need-units-requires
 units-requires c κs = search laws
 
--- src/members.rt:48:12
 written-row-requires : tie.Need-written-row-requires
 written-row-requires c κs = search laws
 
--- src/members.rt:43:1
 same-length : tie.Need-same-length
 same-length c = search laws
 
--- src/members.rt:43:1
 returns : tie.Need-returns
 returns c = search laws
 

@@ -6,15 +6,12 @@ use Rattle.dralovika.proofs.notes.dralovika_annotation.Lts as lts
 use Rattle.value_readers.proofs.annotation.Reads as annotation-reads
 use Rattle.answer_rows.proofs.annotation_row.Reads as annotation-row-reads
 
--- src/notes.rt:107:40
 annotation-requires : tie.Need-annotation-requires
 annotation-requires c κs = search laws
 
--- src/notes.rt:107:12
 annotation-row-requires : tie.Need-annotation-row-requires
 annotation-row-requires c κs = search laws
 
--- src/notes.rt:103:1
 returns : tie.Need-returns
 returns c = search laws
 

@@ -6,15 +6,12 @@ use Rattle.dralovika.proofs.notes.dralovika_annotation_element.Lts as l
 use Rattle.value_readers.proofs.annotation_element.Reads as annotation-element-reads
 use Rattle.answer_rows.proofs.element_row.Reads as element-row-reads
 
--- src/notes.rt:114:37
 annotation-element-requires : tie.Need-annotation-element-requires
 annotation-element-requires c κs = search laws
 
--- src/notes.rt:114:12
 element-row-requires : tie.Need-element-row-requires
 element-row-requires c κs = search laws
 
--- src/notes.rt:110:1
 returns : tie.Need-returns
 returns c = search laws
 

@@ -6,15 +6,12 @@ use Rattle.dralovika.proofs.notes.dralovika_class_annotation_count.Lts 
 use Rattle.set_readers.proofs.class_annotation_count.Reads as class-annotation-count-reads
 use Rattle.answer_rows.proofs.word_row.Reads as word-row-reads
 
--- src/notes.rt:42:34
 class-annotation-count-requires : tie.Need-class-annotation-count-requires
 class-annotation-count-requires c κs = search laws
 
--- src/notes.rt:42:12
 word-row-requires : tie.Need-word-row-requires
 word-row-requires c κs = search laws
 
--- src/notes.rt:38:1
 returns : tie.Need-returns
 returns c = search laws
 

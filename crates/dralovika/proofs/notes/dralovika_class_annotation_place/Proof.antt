@@ -6,15 +6,12 @@ use Rattle.dralovika.proofs.notes.dralovika_class_annotation_place.Lts 
 use Rattle.set_readers.proofs.class_annotation_place.Reads as class-annotation-place-reads
 use Rattle.answer_rows.proofs.word_row.Reads as word-row-reads
 
--- src/notes.rt:49:34
 class-annotation-place-requires : tie.Need-class-annotation-place-requires
 class-annotation-place-requires c κs = search laws
 
--- src/notes.rt:49:12
 word-row-requires : tie.Need-word-row-requires
 word-row-requires c κs = search laws
 
--- src/notes.rt:45:1
 returns : tie.Need-returns
 returns c = search laws
 

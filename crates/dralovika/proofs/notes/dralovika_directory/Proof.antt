@@ -6,15 +6,12 @@ use Rattle.dralovika.proofs.notes.dralovika_directory.Lts as lts
 use Rattle.directory_readers.proofs.directory.Reads as directory-reads
 use Rattle.answer_rows.proofs.directory_row.Reads as directory-row-reads
 
--- src/notes.rt:12:39
 directory-requires : tie.Need-directory-requires
 directory-requires c κs = search laws
 
--- src/notes.rt:12:12
 directory-row-requires : tie.Need-directory-row-requires
 directory-row-requires c κs = search laws
 
--- src/notes.rt:8:1
 returns : tie.Need-returns
 returns c = search laws
 

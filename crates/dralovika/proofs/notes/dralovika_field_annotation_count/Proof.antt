@@ -6,15 +6,12 @@ use Rattle.dralovika.proofs.notes.dralovika_field_annotation_count.Lts 
 use Rattle.set_readers.proofs.field_annotation_count.Reads as field-annotation-count-reads
 use Rattle.answer_rows.proofs.word_row.Reads as word-row-reads
 
--- src/notes.rt:56:34
 field-annotation-count-requires : tie.Need-field-annotation-count-requires
 field-annotation-count-requires c κs = search laws
 
--- src/notes.rt:56:12
 word-row-requires : tie.Need-word-row-requires
 word-row-requires c κs = search laws
 
--- src/notes.rt:52:1
 returns : tie.Need-returns
 returns c = search laws
 

@@ -6,15 +6,12 @@ use Rattle.dralovika.proofs.notes.dralovika_field_annotation_place.Lts 
 use Rattle.set_readers.proofs.field_annotation_place.Reads as field-annotation-place-reads
 use Rattle.answer_rows.proofs.word_row.Reads as word-row-reads
 
--- src/notes.rt:63:34
 field-annotation-place-requires : tie.Need-field-annotation-place-requires
 field-annotation-place-requires c κs = search laws
 
--- src/notes.rt:63:12
 word-row-requires : tie.Need-word-row-requires
 word-row-requires c κs = search laws
 
--- src/notes.rt:59:1
 returns : tie.Need-returns
 returns c = search laws
 

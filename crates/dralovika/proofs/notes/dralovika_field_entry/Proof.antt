@@ -6,15 +6,12 @@ use Rattle.dralovika.proofs.notes.dralovika_field_entry.Lts as lts
 use Rattle.directory_readers.proofs.field_entry.Reads as field-entry-reads
 use Rattle.answer_rows.proofs.place_row.Reads as place-row-reads
 
--- src/notes.rt:20:35
 field-entry-requires : tie.Need-field-entry-requires
 field-entry-requires c κs = search laws
 
--- src/notes.rt:20:12
 place-row-requires : tie.Need-place-row-requires
 place-row-requires c κs = search laws
 
--- src/notes.rt:16:1
 returns : tie.Need-returns
 returns c = search laws
 

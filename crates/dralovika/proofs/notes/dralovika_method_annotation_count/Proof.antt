@@ -6,15 +6,12 @@ use Rattle.dralovika.proofs.notes.dralovika_method_annotation_count.Lts
 use Rattle.set_readers.proofs.method_annotation_count.Reads as method-annotation-count-reads
 use Rattle.answer_rows.proofs.word_row.Reads as word-row-reads
 
--- src/notes.rt:70:34
 method-annotation-count-requires : tie.Need-method-annotation-count-requires
 method-annotation-count-requires c κs = search laws
 
--- src/notes.rt:70:12
 word-row-requires : tie.Need-word-row-requires
 word-row-requires c κs = search laws
 
--- src/notes.rt:66:1
 returns : tie.Need-returns
 returns c = search laws
 

@@ -6,15 +6,12 @@ use Rattle.dralovika.proofs.notes.dralovika_method_annotation_place.Lts
 use Rattle.set_readers.proofs.method_annotation_place.Reads as method-annotation-place-reads
 use Rattle.answer_rows.proofs.word_row.Reads as word-row-reads
 
--- src/notes.rt:77:34
 method-annotation-place-requires : tie.Need-method-annotation-place-requires
 method-annotation-place-requires c κs = search laws
 
--- src/notes.rt:77:12
 word-row-requires : tie.Need-word-row-requires
 word-row-requires c κs = search laws
 
--- src/notes.rt:73:1
 returns : tie.Need-returns
 returns c = search laws
 

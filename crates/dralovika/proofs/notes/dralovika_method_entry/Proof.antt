@@ -6,15 +6,12 @@ use Rattle.dralovika.proofs.notes.dralovika_method_entry.Lts as lts
 use Rattle.directory_readers.proofs.method_entry.Reads as method-entry-reads
 use Rattle.answer_rows.proofs.place_row.Reads as place-row-reads
 
--- src/notes.rt:27:35
 method-entry-requires : tie.Need-method-entry-requires
 method-entry-requires c κs = search laws
 
--- src/notes.rt:27:12
 place-row-requires : tie.Need-place-row-requires
 place-row-requires c κs = search laws
 
--- src/notes.rt:23:1
 returns : tie.Need-returns
 returns c = search laws
 

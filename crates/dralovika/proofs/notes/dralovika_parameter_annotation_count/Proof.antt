@@ -6,15 +6,12 @@ use Rattle.dralovika.proofs.notes.dralovika_parameter_annotation_count.
 use Rattle.set_readers.proofs.parameter_annotation_count.Reads as parameter-annotation-count-reads
 use Rattle.answer_rows.proofs.word_row.Reads as word-row-reads
 
--- src/notes.rt:92:34
 parameter-annotation-count-requires : tie.Need-parameter-annotation-count-requires
 parameter-annotation-count-requires c κs = search laws
 
--- src/notes.rt:92:12
 word-row-requires : tie.Need-word-row-requires
 word-row-requires c κs = search laws
 
--- src/notes.rt:88:1
 returns : tie.Need-returns
 returns c = search laws
 

@@ -6,15 +6,12 @@ use Rattle.dralovika.proofs.notes.dralovika_parameter_annotation_place.
 use Rattle.set_readers.proofs.parameter_annotation_place.Reads as parameter-annotation-place-reads
 use Rattle.answer_rows.proofs.word_row.Reads as word-row-reads
 
--- src/notes.rt:99:34
 parameter-annotation-place-requires : tie.Need-parameter-annotation-place-requires
 parameter-annotation-place-requires c κs = search laws
 
--- src/notes.rt:99:12
 word-row-requires : tie.Need-word-row-requires
 word-row-requires c κs = search laws
 
--- src/notes.rt:95:1
 returns : tie.Need-returns
 returns c = search laws
 

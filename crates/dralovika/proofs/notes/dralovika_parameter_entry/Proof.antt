@@ -6,15 +6,12 @@ use Rattle.dralovika.proofs.notes.dralovika_parameter_entry.Lts as lts
 use Rattle.directory_readers.proofs.parameter_entry.Reads as parameter-entry-reads
 use Rattle.answer_rows.proofs.place_row.Reads as place-row-reads
 
--- src/notes.rt:34:35
 parameter-entry-requires : tie.Need-parameter-entry-requires
 parameter-entry-requires c κs = search laws
 
--- src/notes.rt:34:12
 place-row-requires : tie.Need-place-row-requires
 place-row-requires c κs = search laws
 
--- src/notes.rt:30:1
 returns : tie.Need-returns
 returns c = search laws
 

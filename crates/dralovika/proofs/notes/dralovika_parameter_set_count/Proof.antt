@@ -6,15 +6,12 @@ use Rattle.dralovika.proofs.notes.dralovika_parameter_set_count.Lts as 
 use Rattle.set_readers.proofs.parameter_set_count.Reads as parameter-set-count-reads
 use Rattle.answer_rows.proofs.word_row.Reads as word-row-reads
 
--- src/notes.rt:85:34
 parameter-set-count-requires : tie.Need-parameter-set-count-requires
 parameter-set-count-requires c κs = search laws
 
--- src/notes.rt:85:12
 word-row-requires : tie.Need-word-row-requires
 word-row-requires c κs = search laws
 
--- src/notes.rt:81:1
 returns : tie.Need-returns
 returns c = search laws
 

@@ -6,15 +6,12 @@ use Rattle.dralovika.proofs.tables.dralovika_class.Lts as lts
 use Rattle.answer_rows.proofs.class_row.Reads as class-row-reads
 use Rattle.table_readers.proofs.class.Reads as class-reads
 
--- src/tables.rt:122:35
 class-requires : tie.Need-class-requires
 class-requires c κs = search laws
 
--- src/tables.rt:122:12
 class-row-requires : tie.Need-class-row-requires
 class-row-requires c κs = search laws
 
--- src/tables.rt:118:1
 returns : tie.Need-returns
 returns c = search laws
 

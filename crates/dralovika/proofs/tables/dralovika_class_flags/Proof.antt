@@ -6,19 +6,15 @@ use Rattle.dralovika.proofs.tables.dralovika_class_flags.Lts as lts
 use Rattle.answer_rows.proofs.flags_row.Reads as flags-row-reads
 use Rattle.table_readers.proofs.class_flags.Reads as class-flags-reads
 
--- src/tables.rt:146:35
 class-flags-requires : tie.Need-class-flags-requires
 class-flags-requires c κs = search laws
 
--- src/tables.rt:146:12
 flags-row-requires : tie.Need-flags-row-requires
 flags-row-requires c κs = search laws
 
--- src/tables.rt:141:1
 same-length : tie.Need-same-length
 same-length c = search laws
 
--- src/tables.rt:141:1
 returns : tie.Need-returns
 returns c = search laws
 

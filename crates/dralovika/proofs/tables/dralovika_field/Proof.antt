@@ -6,15 +6,12 @@ use Rattle.dralovika.proofs.tables.dralovika_field.Lts as lts
 use Rattle.answer_rows.proofs.member_row.Reads as member-row-reads
 use Rattle.table_readers.proofs.field.Reads as field-reads
 
--- src/tables.rt:108:36
 field-requires : tie.Need-field-requires
 field-requires c κs = search laws
 
--- src/tables.rt:108:12
 member-row-requires : tie.Need-member-row-requires
 member-row-requires c κs = search laws
 
--- src/tables.rt:104:1
 returns : tie.Need-returns
 returns c = search laws
 

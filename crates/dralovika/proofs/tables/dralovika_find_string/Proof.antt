@@ -6,15 +6,12 @@ use Rattle.dralovika.proofs.tables.dralovika_find_string.Lts as lts
 use Rattle.answer_rows.proofs.lookup_row.Reads as lookup-row-reads
 use Rattle.table_readers.proofs.find_string.Reads as find-string-reads
 
--- src/tables.rt:71:36
 find-string-requires : tie.Need-find-string-requires
 find-string-requires c κs = search laws
 
--- src/tables.rt:71:12
 lookup-row-requires : tie.Need-lookup-row-requires
 lookup-row-requires c κs = search laws
 
--- src/tables.rt:67:1
 returns : tie.Need-returns
 returns c = search laws
 

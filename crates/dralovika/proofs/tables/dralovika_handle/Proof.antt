@@ -6,15 +6,12 @@ use Rattle.dralovika.proofs.tables.dralovika_handle.Lts as lts
 use Rattle.answer_rows.proofs.handle_row.Reads as handle-row-reads
 use Rattle.table_readers.proofs.handle.Reads as handle-reads
 
--- src/tables.rt:55:36
 handle-requires : tie.Need-handle-requires
 handle-requires c κs = search laws
 
--- src/tables.rt:55:12
 handle-row-requires : tie.Need-handle-row-requires
 handle-row-requires c κs = search laws
 
--- src/tables.rt:51:1
 returns : tie.Need-returns
 returns c = search laws
 

@@ -6,15 +6,12 @@ use Rattle.dralovika.proofs.tables.dralovika_handle_count.Lts as lts
 use Rattle.answer_rows.proofs.count_row.Reads as count-row-reads
 use Rattle.table_readers.proofs.handle_count.Reads as handle-count-reads
 
--- src/tables.rt:48:35
 handle-count-requires : tie.Need-handle-count-requires
 handle-count-requires c κs = search laws
 
--- src/tables.rt:48:12
 count-row-requires : tie.Need-count-row-requires
 count-row-requires c κs = search laws
 
--- src/tables.rt:44:1
 returns : tie.Need-returns
 returns c = search laws
 

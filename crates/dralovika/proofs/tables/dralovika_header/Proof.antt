@@ -6,15 +6,12 @@ use Rattle.dralovika.proofs.tables.dralovika_header.Lts as lts
 use Rattle.answer_rows.proofs.header_row.Reads as header-row-reads
 use Rattle.table_readers.proofs.header.Reads as header-reads
 
--- src/tables.rt:18:36
 header-requires : tie.Need-header-requires
 header-requires c κs = search laws
 
--- src/tables.rt:18:12
 header-row-requires : tie.Need-header-row-requires
 header-row-requires c κs = search laws
 
--- src/tables.rt:14:1
 returns : tie.Need-returns
 returns c = search laws
 

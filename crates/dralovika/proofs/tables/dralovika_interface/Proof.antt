@@ -6,15 +6,12 @@ use Rattle.dralovika.proofs.tables.dralovika_interface.Lts as lts
 use Rattle.answer_rows.proofs.listed_row.Reads as listed-row-reads
 use Rattle.table_readers.proofs.interface.Reads as interface-reads
 
--- src/tables.rt:137:36
 interface-requires : tie.Need-interface-requires
 interface-requires c κs = search laws
 
--- src/tables.rt:137:12
 listed-row-requires : tie.Need-listed-row-requires
 listed-row-requires c κs = search laws
 
--- src/tables.rt:133:1
 returns : tie.Need-returns
 returns c = search laws
 

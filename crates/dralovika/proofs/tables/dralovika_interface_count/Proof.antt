@@ -6,15 +6,12 @@ use Rattle.dralovika.proofs.tables.dralovika_interface_count.Lts as lts
 use Rattle.answer_rows.proofs.list_row.Reads as list-row-reads
 use Rattle.table_readers.proofs.interface_count.Reads as interface-count-reads
 
--- src/tables.rt:129:34
 interface-count-requires : tie.Need-interface-count-requires
 interface-count-requires c κs = search laws
 
--- src/tables.rt:129:12
 list-row-requires : tie.Need-list-row-requires
 list-row-requires c κs = search laws
 
--- src/tables.rt:125:1
 returns : tie.Need-returns
 returns c = search laws
 

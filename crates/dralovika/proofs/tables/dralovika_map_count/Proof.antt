@@ -6,15 +6,12 @@ use Rattle.dralovika.proofs.tables.dralovika_map_count.Lts as lts
 use Rattle.answer_rows.proofs.count_row.Reads as count-row-reads
 use Rattle.table_readers.proofs.map_count.Reads as map-count-reads
 
--- src/tables.rt:33:35
 map-count-requires : tie.Need-map-count-requires
 map-count-requires c κs = search laws
 
--- src/tables.rt:33:12
 count-row-requires : tie.Need-count-row-requires
 count-row-requires c κs = search laws
 
--- src/tables.rt:29:1
 returns : tie.Need-returns
 returns c = search laws
 

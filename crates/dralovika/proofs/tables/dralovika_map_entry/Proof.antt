@@ -6,15 +6,12 @@ use Rattle.dralovika.proofs.tables.dralovika_map_entry.Lts as lts
 use Rattle.answer_rows.proofs.entry_row.Reads as entry-row-reads
 use Rattle.table_readers.proofs.map_entry.Reads as map-entry-reads
 
--- src/tables.rt:41:35
 map-entry-requires : tie.Need-map-entry-requires
 map-entry-requires c κs = search laws
 
--- src/tables.rt:41:12
 entry-row-requires : tie.Need-entry-row-requires
 entry-row-requires c κs = search laws
 
--- src/tables.rt:37:1
 returns : tie.Need-returns
 returns c = search laws
 

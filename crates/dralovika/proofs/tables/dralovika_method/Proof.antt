@@ -6,15 +6,12 @@ use Rattle.dralovika.proofs.tables.dralovika_method.Lts as lts
 use Rattle.answer_rows.proofs.member_row.Reads as member-row-reads
 use Rattle.table_readers.proofs.method.Reads as method-reads
 
--- src/tables.rt:115:36
 method-requires : tie.Need-method-requires
 method-requires c κs = search laws
 
--- src/tables.rt:115:12
 member-row-requires : tie.Need-member-row-requires
 member-row-requires c κs = search laws
 
--- src/tables.rt:111:1
 returns : tie.Need-returns
 returns c = search laws
 

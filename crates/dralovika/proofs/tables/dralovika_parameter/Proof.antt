@@ -6,15 +6,12 @@ use Rattle.dralovika.proofs.tables.dralovika_parameter.Lts as lts
 use Rattle.answer_rows.proofs.listed_row.Reads as listed-row-reads
 use Rattle.table_readers.proofs.parameter.Reads as parameter-reads
 
--- src/tables.rt:101:36
 parameter-requires : tie.Need-parameter-requires
 parameter-requires c κs = search laws
 
--- src/tables.rt:101:12
 listed-row-requires : tie.Need-listed-row-requires
 listed-row-requires c κs = search laws
 
--- src/tables.rt:97:1
 returns : tie.Need-returns
 returns c = search laws
 

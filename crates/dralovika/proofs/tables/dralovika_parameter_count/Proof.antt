@@ -6,15 +6,12 @@ use Rattle.dralovika.proofs.tables.dralovika_parameter_count.Lts as lts
 use Rattle.answer_rows.proofs.list_row.Reads as list-row-reads
 use Rattle.table_readers.proofs.parameter_count.Reads as parameter-count-reads
 
--- src/tables.rt:93:34
 parameter-count-requires : tie.Need-parameter-count-requires
 parameter-count-requires c κs = search laws
 
--- src/tables.rt:93:12
 list-row-requires : tie.Need-list-row-requires
 list-row-requires c κs = search laws
 
--- src/tables.rt:89:1
 returns : tie.Need-returns
 returns c = search laws
 

@@ -6,15 +6,12 @@ use Rattle.dralovika.proofs.tables.dralovika_proto.Lts as lts
 use Rattle.answer_rows.proofs.proto_row.Reads as proto-row-reads
 use Rattle.table_readers.proofs.proto.Reads as proto-reads
 
--- src/tables.rt:86:35
 proto-requires : tie.Need-proto-requires
 proto-requires c κs = search laws
 
--- src/tables.rt:86:12
 proto-row-requires : tie.Need-proto-row-requires
 proto-row-requires c κs = search laws
 
--- src/tables.rt:82:1
 returns : tie.Need-returns
 returns c = search laws
 

@@ -6,15 +6,12 @@ use Rattle.dralovika.proofs.tables.dralovika_signature.Lts as lts
 use Rattle.answer_rows.proofs.signature_row.Reads as signature-row-reads
 use Rattle.table_readers.proofs.header.Reads as header-reads
 
--- src/tables.rt:26:39
 header-requires : tie.Need-header-requires
 header-requires c κs = search laws
 
--- src/tables.rt:26:12
 signature-row-requires : tie.Need-signature-row-requires
 signature-row-requires c κs = search laws
 
--- src/tables.rt:22:1
 returns : tie.Need-returns
 returns c = search laws
 

@@ -6,15 +6,12 @@ use Rattle.dralovika.proofs.tables.dralovika_string.Lts as lts
 use Rattle.answer_rows.proofs.text_row.Reads as text-row-reads
 use Rattle.table_readers.proofs.string.Reads as string-reads
 
--- src/tables.rt:63:34
 string-requires : tie.Need-string-requires
 string-requires c κs = search laws
 
--- src/tables.rt:63:12
 text-row-requires : tie.Need-text-row-requires
 text-row-requires c κs = search laws
 
--- src/tables.rt:59:1
 returns : tie.Need-returns
 returns c = search laws
 

@@ -6,15 +6,12 @@ use Rattle.dralovika.proofs.tables.dralovika_type_name.Lts as lts
 use Rattle.answer_rows.proofs.index_row.Reads as index-row-reads
 use Rattle.table_readers.proofs.type_name.Reads as type-name-reads
 
--- src/tables.rt:79:35
 type-name-requires : tie.Need-type-name-requires
 type-name-requires c κs = search laws
 
--- src/tables.rt:79:12
 index-row-requires : tie.Need-index-row-requires
 index-row-requires c κs = search laws
 
--- src/tables.rt:75:1
 returns : tie.Need-returns
 returns c = search laws
 

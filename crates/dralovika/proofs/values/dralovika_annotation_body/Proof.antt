@@ -6,15 +6,12 @@ use Rattle.dralovika.proofs.values.dralovika_annotation_body.Lts as lts
 use Rattle.answer_rows.proofs.body_row.Reads as body-row-reads
 use Rattle.value_readers.proofs.annotation_body.Reads as annotation-body-reads
 
--- src/values.rt:27:34
 annotation-body-requires : tie.Need-annotation-body-requires
 annotation-body-requires c κs = search laws
 
--- src/values.rt:27:12
 body-row-requires : tie.Need-body-row-requires
 body-row-requires c κs = search laws
 
--- src/values.rt:23:1
 returns : tie.Need-returns
 returns c = search laws
 

@@ -6,15 +6,12 @@ use Rattle.dralovika.proofs.values.dralovika_annotation_body_element.Lt
 use Rattle.answer_rows.proofs.element_row.Reads as element-row-reads
 use Rattle.value_readers.proofs.annotation_body_element.Reads as annotation-body-element-reads
 
--- src/values.rt:39:37
 annotation-body-element-requires : tie.Need-annotation-body-element-requires
 annotation-body-element-requires c κs = search laws
 
--- src/values.rt:39:12
 element-row-requires : tie.Need-element-row-requires
 element-row-requires c κs = search laws
 
--- src/values.rt:30:1
 returns : tie.Need-returns
 returns c = search laws
 

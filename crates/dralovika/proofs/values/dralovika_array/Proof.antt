@@ -6,15 +6,12 @@ use Rattle.dralovika.proofs.values.dralovika_array.Lts as lts
 use Rattle.answer_rows.proofs.array_row.Reads as array-row-reads
 use Rattle.value_readers.proofs.array.Reads as array-reads
 
--- src/values.rt:12:35
 array-requires : tie.Need-array-requires
 array-requires c κs = search laws
 
--- src/values.rt:12:12
 array-row-requires : tie.Need-array-row-requires
 array-row-requires c κs = search laws
 
--- src/values.rt:8:1
 returns : tie.Need-returns
 returns c = search laws
 

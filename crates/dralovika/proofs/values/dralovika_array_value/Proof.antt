@@ -6,15 +6,12 @@ use Rattle.dralovika.proofs.values.dralovika_array_value.Lts as lts
 use Rattle.answer_rows.proofs.picked_row.Reads as picked-row-reads
 use Rattle.value_readers.proofs.array_value.Reads as array-value-reads
 
--- src/values.rt:19:36
 array-value-requires : tie.Need-array-value-requires
 array-value-requires c κs = search laws
 
--- src/values.rt:19:12
 picked-row-requires : tie.Need-picked-row-requires
 picked-row-requires c κs = search laws
 
--- src/values.rt:15:1
 returns : tie.Need-returns
 returns c = search laws
 

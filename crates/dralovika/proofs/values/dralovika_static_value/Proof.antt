@@ -6,15 +6,12 @@ use Rattle.dralovika.proofs.values.dralovika_static_value.Lts as lts
 use Rattle.answer_rows.proofs.picked_row.Reads as picked-row-reads
 use Rattle.value_readers.proofs.static_value.Reads as static-value-reads
 
--- src/values.rt:53:36
 static-value-requires : tie.Need-static-value-requires
 static-value-requires c κs = search laws
 
--- src/values.rt:53:12
 picked-row-requires : tie.Need-picked-row-requires
 picked-row-requires c κs = search laws
 
--- src/values.rt:49:1
 returns : tie.Need-returns
 returns c = search laws
 

@@ -6,15 +6,12 @@ use Rattle.dralovika.proofs.values.dralovika_static_value_count.Lts as 
 use Rattle.answer_rows.proofs.size_row.Reads as size-row-reads
 use Rattle.value_readers.proofs.static_value_count.Reads as static-value-count-reads
 
--- src/values.rt:46:34
 static-value-count-requires : tie.Need-static-value-count-requires
 static-value-count-requires c κs = search laws
 
--- src/values.rt:46:12
 size-row-requires : tie.Need-size-row-requires
 size-row-requires c κs = search laws
 
--- src/values.rt:42:1
 returns : tie.Need-returns
 returns c = search laws
 

@@ -6,15 +6,12 @@ use Rattle.dralovika.proofs.whole.dralovika_check.Lts as lts
 use Rattle.answer_rows.proofs.checked_row.Reads as checked-row-reads
 use Rattle.whole_check.proofs.check.Reads as check-reads
 
--- src/whole.rt:10:37
 check-requires : tie.Need-check-requires
 check-requires c κs = search laws
 
--- src/whole.rt:10:12
 checked-row-requires : tie.Need-checked-row-requires
 checked-row-requires c κs = search laws
 
--- src/whole.rt:6:1
 returns : tie.Need-returns
 returns c = search laws
 

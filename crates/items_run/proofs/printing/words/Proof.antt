@@ -12,35 +12,27 @@ Inv-loop mask row bits₀ i₀ bits i = Unit
 abbrev μ-loop : tie.MeasureT-loop
 μ-loop mask row bits₀ i₀ bits i = 20 - i
 
--- src/printing.rt:35:5
 loop-holds : tie.Need-loop-holds Inv-loop μ-loop
 loop-holds c = search needs
 
--- src/printing.rt:37:20
 mul-number : tie.Need-mul-number Inv-loop μ-loop
 mul-number c = search needs
 
--- src/printing.rt:37:20
 array-read-number : tie.Need-array-read-number Inv-loop μ-loop
 array-read-number c = search needs
 
--- src/printing.rt:37:13
 number-requires : tie.Need-number-requires Inv-loop μ-loop
 number-requires c κs = search needs
 
--- src/printing.rt:40:9
 add-i : tie.Need-add-i Inv-loop μ-loop
 add-i c = search needs
 
--- src/printing.rt:35:5
 loop-less : tie.Need-loop-less Inv-loop μ-loop
 loop-less c = search needs
 
--- src/printing.rt:35:5
 loop-again : tie.Need-loop-again Inv-loop μ-loop
 loop-again c = search needs
 
--- src/printing.rt:32:1
 returns : tie.Need-returns Inv-loop μ-loop
 returns c = search needs
 

@@ -8,39 +8,30 @@ use Rattle.readers_run.proofs.printing.bytes.Reads as bytes-reads
 use Rattle.readers_run.proofs.printing.words.Reads as words-reads
 use Rattle.table_readers.proofs.class_flags.Reads as class-flags-reads
 
--- src/outputs.rt:28:9
 returns : tie.Need-returns
 returns c = search laws
 
--- src/outputs.rt:30:38
 slice-relend-prefix-class-flags : tie.Need-slice-relend-prefix-class-flags
 slice-relend-prefix-class-flags c = search laws
 
--- src/outputs.rt:30:38
 slice-aggregate-class-flags : tie.Need-slice-aggregate-class-flags
 slice-aggregate-class-flags c = search laws
 
--- src/outputs.rt:30:9
 class-flags-requires : tie.Need-class-flags-requires
 class-flags-requires c κs = search laws
 
--- src/outputs.rt:31:21
 flags-row-requires : tie.Need-flags-row-requires
 flags-row-requires c κs = search laws
 
--- src/outputs.rt:31:5
 words-requires : tie.Need-words-requires
 words-requires c κs = search laws
 
--- src/outputs.rt:32:5
 bytes-requires : tie.Need-bytes-requires
 bytes-requires c κs = search laws
 
--- src/outputs.rt:26:1
 same-length : tie.Need-same-length
 same-length c = search laws
 
--- src/outputs.rt:26:1
 returns-2 : tie.Need-returns-2
 returns-2 c = search laws
 

@@ -8,39 +8,30 @@ use Rattle.class_readers.proofs.member_flags.Reads as member-flags-reads
 use Rattle.readers_run.proofs.printing.bytes.Reads as bytes-reads
 use Rattle.readers_run.proofs.printing.words.Reads as words-reads
 
--- src/outputs.rt:37:9
 returns : tie.Need-returns
 returns c = search laws
 
--- src/outputs.rt:39:61
 slice-relend-prefix-member-flags : tie.Need-slice-relend-prefix-member-flags
 slice-relend-prefix-member-flags c = search laws
 
--- src/outputs.rt:39:61
 slice-aggregate-member-flags : tie.Need-slice-aggregate-member-flags
 slice-aggregate-member-flags c = search laws
 
--- src/outputs.rt:39:9
 member-flags-requires : tie.Need-member-flags-requires
 member-flags-requires c κs = search laws
 
--- src/outputs.rt:40:21
 written-row-requires : tie.Need-written-row-requires
 written-row-requires c κs = search laws
 
--- src/outputs.rt:40:5
 words-requires : tie.Need-words-requires
 words-requires c κs = search laws
 
--- src/outputs.rt:41:5
 bytes-requires : tie.Need-bytes-requires
 bytes-requires c κs = search laws
 
--- src/outputs.rt:35:1
 same-length : tie.Need-same-length
 same-length c = search laws
 
--- src/outputs.rt:35:1
 returns-2 : tie.Need-returns-2
 returns-2 c = search laws
 

@@ -13,35 +13,27 @@ Inv-loop s i₀ i = Unit
 abbrev μ-loop : tie.MeasureT-loop
 μ-loop s i₀ i = length s - i
 
--- src/printing.rt:25:5
 loop-holds : tie.Need-loop-holds Inv-loop μ-loop
 loop-holds c = search needs
 
--- src/printing.rt:26:14
 mul-unit : tie.Need-mul-unit Inv-loop μ-loop
 mul-unit c = search needs
 
--- src/printing.rt:26:14
 shared-slice-read-unit : tie.Need-shared-slice-read-unit Inv-loop μ-loop
 shared-slice-read-unit c = search needs
 
--- src/printing.rt:26:9
 unit-requires : tie.Need-unit-requires Inv-loop μ-loop
 unit-requires c κs = search needs
 
--- src/printing.rt:27:9
 add-i : tie.Need-add-i Inv-loop μ-loop
 add-i c = search needs
 
--- src/printing.rt:25:5
 loop-less : tie.Need-loop-less Inv-loop μ-loop
 loop-less c = search needs
 
--- src/printing.rt:25:5
 loop-again : tie.Need-loop-again Inv-loop μ-loop
 loop-again c = search needs
 
--- src/printing.rt:23:1
 returns : tie.Need-returns Inv-loop μ-loop
 returns c = search needs
 

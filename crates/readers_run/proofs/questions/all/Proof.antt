@@ -15,75 +15,57 @@ Inv-loop f s at₀ at = Unit
 abbrev μ-loop : tie.MeasureT-loop
 μ-loop f s at₀ at = length s - at
 
--- src/questions.rt:113:5
 loop-holds : tie.Need-loop-holds Inv-loop μ-loop
 loop-holds c = search needs
 
--- src/questions.rt:114:45
 add-byte-at : tie.Need-add-byte-at Inv-loop μ-loop
 add-byte-at c = search needs
 
--- src/questions.rt:114:28
 byte-at-requires : tie.Need-byte-at-requires Inv-loop μ-loop
 byte-at-requires c κs = search needs
 
--- src/questions.rt:114:28
 cast-size : tie.Need-cast-size Inv-loop μ-loop
 cast-size c = search needs
 
--- src/questions.rt:114:24
 mul-size : tie.Need-mul-size Inv-loop μ-loop
 mul-size c = search needs
 
--- src/questions.rt:114:20
 add-size : tie.Need-add-size Inv-loop μ-loop
 add-size c = search needs
 
--- src/questions.rt:115:37
 add-byte-at-2 : tie.Need-add-byte-at-2 Inv-loop μ-loop
 add-byte-at-2 c = search needs
 
--- src/questions.rt:115:20
 byte-at-requires-2 : tie.Need-byte-at-requires-2 Inv-loop μ-loop
 byte-at-requires-2 c κs = search needs
 
--- src/questions.rt:115:20
 cast-more : tie.Need-cast-more Inv-loop μ-loop
 cast-more c = search needs
 
--- src/questions.rt:118:13
 bytes-at-requires : tie.Need-bytes-at-requires Inv-loop μ-loop
 bytes-at-requires c κs = search needs
 
--- src/questions.rt:119:31
 add-bytes-at : tie.Need-add-bytes-at Inv-loop μ-loop
 add-bytes-at c = search needs
 
--- src/questions.rt:119:13
 bytes-at-requires-2 : tie.Need-bytes-at-requires-2 Inv-loop μ-loop
 bytes-at-requires-2 c κs = search needs
 
--- src/questions.rt:116:9
 one-requires : tie.Need-one-requires Inv-loop μ-loop
 one-requires c κs = search needs
 
--- src/questions.rt:121:15
 add-at : tie.Need-add-at Inv-loop μ-loop
 add-at c = search needs
 
--- src/questions.rt:121:9
 add-at-2 : tie.Need-add-at-2 Inv-loop μ-loop
 add-at-2 c = search needs
 
--- src/questions.rt:113:5
 loop-less : tie.Need-loop-less Inv-loop μ-loop
 loop-less c = search needs
 
--- src/questions.rt:113:5
 loop-again : tie.Need-loop-again Inv-loop μ-loop
 loop-again c = search needs
 
--- src/questions.rt:111:1
 returns : tie.Need-returns Inv-loop μ-loop
 returns c = search needs
 

@@ -13,31 +13,24 @@ Inv-loop f path at₀ i₀ at i = Unit
 abbrev μ-loop : tie.MeasureT-loop
 μ-loop f path at₀ i₀ at i = length path - i
 
--- src/values.rt:37:5
 loop-holds : tie.Need-loop-holds Inv-loop μ-loop
 loop-holds c = search needs
 
--- src/values.rt:38:36
 shared-slice-read-step-row : tie.Need-shared-slice-read-step-row Inv-loop μ-loop
 shared-slice-read-step-row c = search needs
 
--- src/values.rt:38:13
 step-row-requires : tie.Need-step-row-requires Inv-loop μ-loop
 step-row-requires c κs = search needs
 
--- src/values.rt:40:9
 add-i : tie.Need-add-i Inv-loop μ-loop
 add-i c = search needs
 
--- src/values.rt:37:5
 loop-less : tie.Need-loop-less Inv-loop μ-loop
 loop-less c = search needs
 
--- src/values.rt:37:5
 loop-again : tie.Need-loop-again Inv-loop μ-loop
 loop-again c = search needs
 
--- src/values.rt:34:1
 returns : tie.Need-returns Inv-loop μ-loop
 returns c = search needs
 

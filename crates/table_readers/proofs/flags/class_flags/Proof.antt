@@ -7,32 +7,25 @@ use Rattle.table_readers.proofs.flags.class_flags.Lts as lts
 use Rattle.access_flags.proofs.flags_into.Reads as flags-into-reads
 use Rattle.table_readers.proofs.tables.class.Reads as class-reads
 
--- src/flags.rt:14:11
 class-requires : tie.Need-class-requires
 class-requires c κs = search laws
 
--- src/flags.rt:15:30
 enum-known-r : tie.Need-enum-known-r
 enum-known-r c = search laws
 
--- src/flags.rt:16:26
 enum-known-c : tie.Need-enum-known-c
 enum-known-c c = search laws
 
--- src/flags.rt:16:32
 flags-into-requires : tie.Need-flags-into-requires
 flags-into-requires c κs = search laws
 
--- src/flags.rt:10:1
 returns : tie.Need-returns
 unfolding classFlags
 returns c = search laws
 
--- src/flags.rt:10:1
 same-length : tie.Need-same-length
 same-length c = search laws
 
--- src/flags.rt:10:1
 returns-2 : tie.Need-returns-2
 unfolding classFlags
 returns-2 c = search laws

@@ -7,41 +7,32 @@ use Rattle.table_readers.proofs.head.handle_count.Lts as lts
 use Rattle.header.proofs.header_of.Reads as header-of-reads
 use Rattle.map_list.proofs.map_of.Reads as map-of-reads
 
--- src/head.rt:66:11
 header-of-requires : tie.Need-header-of-requires
 header-of-requires c κs = search laws depth 7
 
--- src/head.rt:67:31
 enum-known-r : tie.Need-enum-known-r
 enum-known-r c = search laws depth 7
 
--- src/head.rt:68:27
 enum-known-h : tie.Need-enum-known-h
 enum-known-h c = search laws depth 7
 
--- src/head.rt:68:39
 map-of-requires : tie.Need-map-of-requires
 map-of-requires c κs = search laws depth 7
 
--- src/head.rt:69:32
 enum-known-r-2 : tie.Need-enum-known-r-2
 enum-known-r-2 c = search laws depth 7
 
--- src/head.rt:70:28
 enum-known-m : tie.Need-enum-known-m
 enum-known-m c = search laws depth 7
 
--- src/head.rt:63:1
 returns : tie.Need-returns
 unfolding handleCount
 returns c = search laws depth 7
 
--- src/head.rt:63:1
 returns-2 : tie.Need-returns-2
 unfolding handleCount
 returns-2 c = search laws depth 7
 
--- src/head.rt:63:1
 returns-3 : tie.Need-returns-3
 unfolding handleCount
 returns-3 c = search laws depth 7

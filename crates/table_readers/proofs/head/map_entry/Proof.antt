@@ -7,28 +7,22 @@ use Rattle.table_readers.proofs.head.map_entry.Lts as lts
 use Rattle.table_readers.proofs.head.map_entry_in.Reads as map-entry-in-reads
 use Rattle.header.proofs.header_of.Reads as header-of-reads
 
--- src/head.rt:46:11
 header-of-requires : tie.Need-header-of-requires
 header-of-requires c κs = search laws
 
--- src/head.rt:47:31
 enum-known-r : tie.Need-enum-known-r
 enum-known-r c = search laws
 
--- src/head.rt:48:27
 enum-known-h : tie.Need-enum-known-h
 enum-known-h c = search laws
 
--- src/head.rt:48:33
 map-entry-in-requires : tie.Need-map-entry-in-requires
 map-entry-in-requires c κs = search laws
 
--- src/head.rt:43:1
 returns : tie.Need-returns
 unfolding mapEntry
 returns c = search laws
 
--- src/head.rt:43:1
 returns-2 : tie.Need-returns-2
 unfolding mapEntry
 returns-2 c = search laws

@@ -7,33 +7,26 @@ use Rattle.table_readers.proofs.head.map_entry_in.Lts as lts
 use Rattle.map_list.proofs.entry_number.Reads as entry-number-reads
 use Rattle.map_list.proofs.map_of.Reads as map-of-reads
 
--- src/head.rt:55:11
 map-of-requires : tie.Need-map-of-requires
 map-of-requires c κs = search laws
 
--- src/head.rt:56:28
 enum-known-r : tie.Need-enum-known-r
 enum-known-r c = search laws
 
--- src/head.rt:57:24
 enum-known-m : tie.Need-enum-known-m
 enum-known-m c = search laws
 
--- src/head.rt:60:41
 entry-number-requires : tie.Need-entry-number-requires
 entry-number-requires c κs = search laws
 
--- src/head.rt:60:17
 returns : tie.Need-returns
 unfolding mapEntryIn
 returns c = search laws
 
--- src/head.rt:52:1
 returns-2 : tie.Need-returns-2
 unfolding mapEntryIn
 returns-2 c = search laws
 
--- src/head.rt:52:1
 returns-3 : tie.Need-returns-3
 unfolding mapEntryIn
 returns-3 c = search laws

@@ -6,24 +6,19 @@ use Rattle.table_readers.proofs.head.mapped.Reads as reads
 use Rattle.table_readers.proofs.head.mapped.Lts as lts
 use Rattle.map_list.proofs.map_of.Reads as map-of-reads
 
--- src/lib.rt:23:11
 map-of-requires : tie.Need-map-of-requires
 map-of-requires c κs = search laws
 
--- src/lib.rt:24:28
 enum-known-r : tie.Need-enum-known-r
 enum-known-r c = search laws
 
--- src/lib.rt:25:24
 enum-known-m : tie.Need-enum-known-m
 enum-known-m c = search laws
 
--- src/lib.rt:20:1
 returns : tie.Need-returns
 unfolding mappedAt
 returns c = search laws
 
--- src/lib.rt:20:1
 returns-2 : tie.Need-returns-2
 unfolding mappedAt
 returns-2 c = search laws

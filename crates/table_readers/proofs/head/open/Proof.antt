@@ -7,28 +7,22 @@ use Rattle.table_readers.proofs.head.open.Lts as lts
 use Rattle.table_readers.proofs.head.mapped.Reads as mapped-reads
 use Rattle.header.proofs.header_of.Reads as header-of-reads
 
--- src/lib.rt:39:11
 header-of-requires : tie.Need-header-of-requires
 header-of-requires c κs = search laws
 
--- src/lib.rt:40:31
 enum-known-r : tie.Need-enum-known-r
 enum-known-r c = search laws
 
--- src/lib.rt:41:27
 enum-known-h : tie.Need-enum-known-h
 enum-known-h c = search laws
 
--- src/lib.rt:41:33
 mapped-requires : tie.Need-mapped-requires
 mapped-requires c κs = search laws
 
--- src/lib.rt:36:1
 returns : tie.Need-returns
 unfolding openedAt
 returns c = search laws
 
--- src/lib.rt:36:1
 returns-2 : tie.Need-returns-2
 unfolding openedAt
 returns-2 c = search laws

@@ -6,39 +6,30 @@ use Rattle.table_readers.proofs.head.signature.Lts as lts
 use Rattle.header.proofs.header_of.Reads as header-of-reads
 use Rattle.word.proofs.bytes_at.Reads as bytes-at-reads
 
--- src/head.rt:23:11
 header-of-requires : tie.Need-header-of-requires
 header-of-requires c κs = search laws
 
--- src/head.rt:24:37
 enum-told : tie.Need-enum-told
 enum-told c = search laws
 
--- src/head.rt:24:37
 sub-result : tie.Need-sub-result
 sub-result c = search laws
 
--- src/head.rt:24:37
 part-result-start : tie.Need-part-result-start
 part-result-start c = search laws
 
--- src/head.rt:24:37
 part-result-end : tie.Need-part-result-end
 part-result-end c = search laws
 
--- src/head.rt:25:33
 enum-told-2 : tie.Need-enum-told-2
 enum-told-2 c = search laws
 
--- src/head.rt:25:33
 bytes-at-requires : tie.Need-bytes-at-requires
 bytes-at-requires c κs = search laws
 
--- src/head.rt:20:1
 returns : tie.Need-returns
 returns c = search laws
 
--- src/head.rt:20:1
 returns-2 : tie.Need-returns-2
 returns-2 c = search laws
 

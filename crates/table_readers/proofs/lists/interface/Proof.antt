@@ -7,28 +7,22 @@ use Rattle.table_readers.proofs.lists.interface.Lts as lts
 use Rattle.table_readers.proofs.lists.interface_in.Reads as interface-in-reads
 use Rattle.header.proofs.header_of.Reads as header-of-reads
 
--- src/lists.rt:117:11
 header-of-requires : tie.Need-header-of-requires
 header-of-requires c κs = search laws
 
--- src/lists.rt:118:31
 enum-known-r : tie.Need-enum-known-r
 enum-known-r c = search laws
 
--- src/lists.rt:119:27
 enum-known-h : tie.Need-enum-known-h
 enum-known-h c = search laws
 
--- src/lists.rt:119:33
 interface-in-requires : tie.Need-interface-in-requires
 interface-in-requires c κs = search laws
 
--- src/lists.rt:114:1
 returns : tie.Need-returns
 unfolding interface
 returns c = search laws
 
--- src/lists.rt:114:1
 returns-2 : tie.Need-returns-2
 unfolding interface
 returns-2 c = search laws

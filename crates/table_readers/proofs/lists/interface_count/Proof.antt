@@ -7,28 +7,22 @@ use Rattle.table_readers.proofs.lists.interface_count.Lts as lts
 use Rattle.table_readers.proofs.lists.interfaces_in.Reads as interfaces-in-reads
 use Rattle.header.proofs.header_of.Reads as header-of-reads
 
--- src/lists.rt:98:11
 header-of-requires : tie.Need-header-of-requires
 header-of-requires c κs = search laws
 
--- src/lists.rt:99:31
 enum-known-r : tie.Need-enum-known-r
 enum-known-r c = search laws
 
--- src/lists.rt:100:27
 enum-known-h : tie.Need-enum-known-h
 enum-known-h c = search laws
 
--- src/lists.rt:100:33
 interfaces-in-requires : tie.Need-interfaces-in-requires
 interfaces-in-requires c κs = search laws
 
--- src/lists.rt:95:1
 returns : tie.Need-returns
 unfolding interfaceCount
 returns c = search laws
 
--- src/lists.rt:95:1
 returns-2 : tie.Need-returns-2
 unfolding interfaceCount
 returns-2 c = search laws

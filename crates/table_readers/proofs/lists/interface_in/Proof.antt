@@ -7,28 +7,22 @@ use Rattle.table_readers.proofs.lists.interface_in.Lts as lts
 use Rattle.table_readers.proofs.lists.list_type.Reads as list-type-reads
 use Rattle.table_readers.proofs.tables.class_in.Reads as class-in-reads
 
--- src/lists.rt:126:11
 class-in-requires : tie.Need-class-in-requires
 class-in-requires c κs = search laws
 
--- src/lists.rt:127:30
 enum-known-r : tie.Need-enum-known-r
 enum-known-r c = search laws
 
--- src/lists.rt:128:26
 enum-known-c : tie.Need-enum-known-c
 enum-known-c c = search laws
 
--- src/lists.rt:128:32
 list-type-requires : tie.Need-list-type-requires
 list-type-requires c κs = search laws
 
--- src/lists.rt:123:1
 returns : tie.Need-returns
 unfolding interfaceIn
 returns c = search laws
 
--- src/lists.rt:123:1
 returns-2 : tie.Need-returns-2
 unfolding interfaceIn
 returns-2 c = search laws

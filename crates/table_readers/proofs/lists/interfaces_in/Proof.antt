@@ -7,28 +7,22 @@ use Rattle.table_readers.proofs.lists.interfaces_in.Lts as lts
 use Rattle.table_readers.proofs.lists.list_count.Reads as list-count-reads
 use Rattle.table_readers.proofs.tables.class_in.Reads as class-in-reads
 
--- src/lists.rt:107:11
 class-in-requires : tie.Need-class-in-requires
 class-in-requires c κs = search laws
 
--- src/lists.rt:108:30
 enum-known-r : tie.Need-enum-known-r
 enum-known-r c = search laws
 
--- src/lists.rt:109:26
 enum-known-c : tie.Need-enum-known-c
 enum-known-c c = search laws
 
--- src/lists.rt:109:32
 list-count-requires : tie.Need-list-count-requires
 list-count-requires c κs = search laws
 
--- src/lists.rt:104:1
 returns : tie.Need-returns
 unfolding interfacesIn
 returns c = search laws
 
--- src/lists.rt:104:1
 returns-2 : tie.Need-returns-2
 unfolding interfacesIn
 returns-2 c = search laws

@@ -7,20 +7,16 @@ use Rattle.table_readers.proofs.lists.list_count.Lts as lts
 use Rattle.header.proofs.section_of.Reads as section-of-reads
 use Rattle.type_list.proofs.count_at.Reads as count-at-reads
 
--- src/lists.rt:22:13
 section-of-requires : tie.Need-section-of-requires
 section-of-requires c κs = search laws
 
--- src/lists.rt:21:9
 count-at-requires : tie.Need-count-at-requires
 count-at-requires c κs = search laws
 
--- src/lists.rt:21:9
 returns : tie.Need-returns
 unfolding listCount
 returns c = search laws
 
--- src/lists.rt:15:1
 returns-2 : tie.Need-returns-2
 unfolding listCount
 returns-2 c = search laws

@@ -7,20 +7,16 @@ use Rattle.table_readers.proofs.lists.list_type.Lts as lts
 use Rattle.header.proofs.section_of.Reads as section-of-reads
 use Rattle.type_list.proofs.type_at.Reads as type-at-reads
 
--- src/lists.rt:41:13
 section-of-requires : tie.Need-section-of-requires
 section-of-requires c κs = search laws
 
--- src/lists.rt:40:9
 type-at-requires : tie.Need-type-at-requires
 type-at-requires c κs = search laws
 
--- src/lists.rt:40:9
 returns : tie.Need-returns
 unfolding listType
 returns c = search laws
 
--- src/lists.rt:34:1
 returns-2 : tie.Need-returns-2
 unfolding listType
 returns-2 c = search laws

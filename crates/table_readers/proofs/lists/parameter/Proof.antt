@@ -7,28 +7,22 @@ use Rattle.table_readers.proofs.lists.parameter.Lts as lts
 use Rattle.table_readers.proofs.lists.parameter_in.Reads as parameter-in-reads
 use Rattle.header.proofs.header_of.Reads as header-of-reads
 
--- src/lists.rt:79:11
 header-of-requires : tie.Need-header-of-requires
 header-of-requires c κs = search laws
 
--- src/lists.rt:80:31
 enum-known-r : tie.Need-enum-known-r
 enum-known-r c = search laws
 
--- src/lists.rt:81:27
 enum-known-h : tie.Need-enum-known-h
 enum-known-h c = search laws
 
--- src/lists.rt:81:33
 parameter-in-requires : tie.Need-parameter-in-requires
 parameter-in-requires c κs = search laws
 
--- src/lists.rt:76:1
 returns : tie.Need-returns
 unfolding parameter
 returns c = search laws
 
--- src/lists.rt:76:1
 returns-2 : tie.Need-returns-2
 unfolding parameter
 returns-2 c = search laws

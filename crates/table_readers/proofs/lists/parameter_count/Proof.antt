@@ -7,28 +7,22 @@ use Rattle.table_readers.proofs.lists.parameter_count.Lts as lts
 use Rattle.table_readers.proofs.lists.parameters_in.Reads as parameters-in-reads
 use Rattle.header.proofs.header_of.Reads as header-of-reads
 
--- src/lists.rt:60:11
 header-of-requires : tie.Need-header-of-requires
 header-of-requires c κs = search laws
 
--- src/lists.rt:61:31
 enum-known-r : tie.Need-enum-known-r
 enum-known-r c = search laws
 
--- src/lists.rt:62:27
 enum-known-h : tie.Need-enum-known-h
 enum-known-h c = search laws
 
--- src/lists.rt:62:33
 parameters-in-requires : tie.Need-parameters-in-requires
 parameters-in-requires c κs = search laws
 
--- src/lists.rt:57:1
 returns : tie.Need-returns
 unfolding parameterCount
 returns c = search laws
 
--- src/lists.rt:57:1
 returns-2 : tie.Need-returns-2
 unfolding parameterCount
 returns-2 c = search laws

@@ -7,28 +7,22 @@ use Rattle.table_readers.proofs.lists.parameter_in.Lts as lts
 use Rattle.table_readers.proofs.lists.list_type.Reads as list-type-reads
 use Rattle.table_readers.proofs.tables.proto_in.Reads as proto-in-reads
 
--- src/lists.rt:88:11
 proto-in-requires : tie.Need-proto-in-requires
 proto-in-requires c κs = search laws
 
--- src/lists.rt:89:30
 enum-known-r : tie.Need-enum-known-r
 enum-known-r c = search laws
 
--- src/lists.rt:90:26
 enum-known-p : tie.Need-enum-known-p
 enum-known-p c = search laws
 
--- src/lists.rt:90:32
 list-type-requires : tie.Need-list-type-requires
 list-type-requires c κs = search laws
 
--- src/lists.rt:85:1
 returns : tie.Need-returns
 unfolding parameterIn
 returns c = search laws
 
--- src/lists.rt:85:1
 returns-2 : tie.Need-returns-2
 unfolding parameterIn
 returns-2 c = search laws

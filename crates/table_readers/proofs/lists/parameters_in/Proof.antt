@@ -7,28 +7,22 @@ use Rattle.table_readers.proofs.lists.parameters_in.Lts as lts
 use Rattle.table_readers.proofs.lists.list_count.Reads as list-count-reads
 use Rattle.table_readers.proofs.tables.proto_in.Reads as proto-in-reads
 
--- src/lists.rt:69:11
 proto-in-requires : tie.Need-proto-in-requires
 proto-in-requires c κs = search laws
 
--- src/lists.rt:70:30
 enum-known-r : tie.Need-enum-known-r
 enum-known-r c = search laws
 
--- src/lists.rt:71:26
 enum-known-p : tie.Need-enum-known-p
 enum-known-p c = search laws
 
--- src/lists.rt:71:32
 list-count-requires : tie.Need-list-count-requires
 list-count-requires c κs = search laws
 
--- src/lists.rt:66:1
 returns : tie.Need-returns
 unfolding parametersIn
 returns c = search laws
 
--- src/lists.rt:66:1
 returns-2 : tie.Need-returns-2
 unfolding parametersIn
 returns-2 c = search laws

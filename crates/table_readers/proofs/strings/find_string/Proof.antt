@@ -7,28 +7,22 @@ use Rattle.table_readers.proofs.strings.find_string.Lts as lts
 use Rattle.header.proofs.header_of.Reads as header-of-reads
 use Rattle.string_ids.proofs.look_up.Reads as look-up-reads
 
--- src/strings.rt:53:11
 header-of-requires : tie.Need-header-of-requires
 header-of-requires c κs = search laws
 
--- src/strings.rt:54:31
 enum-known-r : tie.Need-enum-known-r
 enum-known-r c = search laws
 
--- src/strings.rt:55:27
 enum-known-h : tie.Need-enum-known-h
 enum-known-h c = search laws
 
--- src/strings.rt:55:33
 look-up-requires : tie.Need-look-up-requires
 look-up-requires c κs = search laws
 
--- src/strings.rt:50:1
 returns : tie.Need-returns
 unfolding findString
 returns c = search laws
 
--- src/strings.rt:50:1
 returns-2 : tie.Need-returns-2
 unfolding findString
 returns-2 c = search laws

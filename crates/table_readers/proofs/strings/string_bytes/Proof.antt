@@ -6,39 +6,30 @@ use Rattle.table_readers.proofs.strings.string_bytes.Lts as lts
 use Rattle.table_readers.proofs.strings.string.Reads as string-reads
 use Rattle.word.proofs.bytes_at.Reads as bytes-at-reads
 
--- src/strings.rt:39:11
 string-requires : tie.Need-string-requires
 string-requires c κs = search laws
 
--- src/strings.rt:40:35
 enum-told : tie.Need-enum-told
 enum-told c = search laws
 
--- src/strings.rt:40:35
 sub-result : tie.Need-sub-result
 sub-result c = search laws
 
--- src/strings.rt:40:35
 part-result-start : tie.Need-part-result-start
 part-result-start c = search laws
 
--- src/strings.rt:40:35
 part-result-end : tie.Need-part-result-end
 part-result-end c = search laws
 
--- src/strings.rt:42:13
 enum-known-start : tie.Need-enum-known-start
 enum-known-start c = search laws
 
--- src/strings.rt:45:14
 bytes-at-requires : tie.Need-bytes-at-requires
 bytes-at-requires c κs = search laws
 
--- src/strings.rt:36:1
 returns : tie.Need-returns
 returns c = search laws
 
--- src/strings.rt:36:1
 returns-2 : tie.Need-returns-2
 returns-2 c = search laws
 

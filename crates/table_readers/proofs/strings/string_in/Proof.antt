@@ -6,16 +6,13 @@ use Rattle.table_readers.proofs.strings.string_in.Reads as reads
 use Rattle.table_readers.proofs.strings.string_in.Lts as lts
 use Rattle.string_ids.proofs.string_at.Reads as string-at-reads
 
--- src/strings.rt:27:9
 string-at-requires : tie.Need-string-at-requires
 string-at-requires c κs = search laws
 
--- src/strings.rt:27:9
 returns : tie.Need-returns
 unfolding stringIn
 returns c = search laws
 
--- src/strings.rt:22:1
 returns-2 : tie.Need-returns-2
 unfolding stringIn
 returns-2 c = search laws

@@ -7,28 +7,22 @@ use Rattle.table_readers.proofs.tables.class.Lts as lts
 use Rattle.table_readers.proofs.tables.class_in.Reads as class-in-reads
 use Rattle.header.proofs.header_of.Reads as header-of-reads
 
--- src/tables.rt:115:11
 header-of-requires : tie.Need-header-of-requires
 header-of-requires c κs = search laws
 
--- src/tables.rt:116:31
 enum-known-r : tie.Need-enum-known-r
 enum-known-r c = search laws
 
--- src/tables.rt:117:27
 enum-known-h : tie.Need-enum-known-h
 enum-known-h c = search laws
 
--- src/tables.rt:117:33
 class-in-requires : tie.Need-class-in-requires
 class-in-requires c κs = search laws
 
--- src/tables.rt:112:1
 returns : tie.Need-returns
 unfolding classOf
 returns c = search laws
 
--- src/tables.rt:112:1
 returns-2 : tie.Need-returns-2
 unfolding classOf
 returns-2 c = search laws

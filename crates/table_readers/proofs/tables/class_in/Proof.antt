@@ -7,20 +7,16 @@ use Rattle.table_readers.proofs.tables.class_in.Lts as lts
 use Rattle.class_ids.proofs.class_at.Reads as class-at-reads
 use Rattle.header.proofs.frame_of.Reads as frame-of-reads
 
--- src/tables.rt:126:39
 frame-of-requires : tie.Need-frame-of-requires
 frame-of-requires c κs = search laws
 
--- src/tables.rt:126:9
 class-at-requires : tie.Need-class-at-requires
 class-at-requires c κs = search laws
 
--- src/tables.rt:126:9
 returns : tie.Need-returns
 unfolding classIn
 returns c = search laws
 
--- src/tables.rt:121:1
 returns-2 : tie.Need-returns-2
 unfolding classIn
 returns-2 c = search laws

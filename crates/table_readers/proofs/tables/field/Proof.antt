@@ -7,28 +7,22 @@ use Rattle.table_readers.proofs.tables.field.Lts as lts
 use Rattle.table_readers.proofs.tables.field_in.Reads as field-in-reads
 use Rattle.header.proofs.header_of.Reads as header-of-reads
 
--- src/tables.rt:67:11
 header-of-requires : tie.Need-header-of-requires
 header-of-requires c κs = search laws
 
--- src/tables.rt:68:31
 enum-known-r : tie.Need-enum-known-r
 enum-known-r c = search laws
 
--- src/tables.rt:69:27
 enum-known-h : tie.Need-enum-known-h
 enum-known-h c = search laws
 
--- src/tables.rt:69:33
 field-in-requires : tie.Need-field-in-requires
 field-in-requires c κs = search laws
 
--- src/tables.rt:64:1
 returns : tie.Need-returns
 unfolding fieldOf
 returns c = search laws
 
--- src/tables.rt:64:1
 returns-2 : tie.Need-returns-2
 unfolding fieldOf
 returns-2 c = search laws

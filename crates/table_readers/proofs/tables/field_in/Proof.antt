@@ -7,20 +7,16 @@ use Rattle.table_readers.proofs.tables.field_in.Lts as lts
 use Rattle.header.proofs.frame_of.Reads as frame-of-reads
 use Rattle.ids.proofs.member_at.Reads as member-at-reads
 
--- src/tables.rt:79:34
 frame-of-requires : tie.Need-frame-of-requires
 frame-of-requires c κs = search laws
 
--- src/tables.rt:79:9
 member-at-requires : tie.Need-member-at-requires
 member-at-requires c κs = search laws
 
--- src/tables.rt:79:9
 returns : tie.Need-returns
 unfolding fieldIn
 returns c = search laws
 
--- src/tables.rt:73:1
 returns-2 : tie.Need-returns-2
 unfolding fieldIn
 returns-2 c = search laws

@@ -7,28 +7,22 @@ use Rattle.table_readers.proofs.tables.handle.Lts as lts
 use Rattle.table_readers.proofs.tables.handle_in.Reads as handle-in-reads
 use Rattle.header.proofs.header_of.Reads as header-of-reads
 
--- src/tables.rt:138:11
 header-of-requires : tie.Need-header-of-requires
 header-of-requires c κs = search laws
 
--- src/tables.rt:139:31
 enum-known-r : tie.Need-enum-known-r
 enum-known-r c = search laws
 
--- src/tables.rt:140:27
 enum-known-h : tie.Need-enum-known-h
 enum-known-h c = search laws
 
--- src/tables.rt:140:33
 handle-in-requires : tie.Need-handle-in-requires
 handle-in-requires c κs = search laws
 
--- src/tables.rt:135:1
 returns : tie.Need-returns
 unfolding handleOf
 returns c = search laws
 
--- src/tables.rt:135:1
 returns-2 : tie.Need-returns-2
 unfolding handleOf
 returns-2 c = search laws

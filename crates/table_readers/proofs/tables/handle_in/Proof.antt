@@ -7,28 +7,22 @@ use Rattle.table_readers.proofs.tables.handle_in.Lts as lts
 use Rattle.table_readers.proofs.tables.handle_under.Reads as handle-under-reads
 use Rattle.map_list.proofs.map_of.Reads as map-of-reads
 
--- src/tables.rt:147:11
 map-of-requires : tie.Need-map-of-requires
 map-of-requires c κs = search laws
 
--- src/tables.rt:148:28
 enum-known-r : tie.Need-enum-known-r
 enum-known-r c = search laws
 
--- src/tables.rt:149:24
 enum-known-m : tie.Need-enum-known-m
 enum-known-m c = search laws
 
--- src/tables.rt:149:30
 handle-under-requires : tie.Need-handle-under-requires
 handle-under-requires c κs = search laws
 
--- src/tables.rt:144:1
 returns : tie.Need-returns
 unfolding handleIn
 returns c = search laws
 
--- src/tables.rt:144:1
 returns-2 : tie.Need-returns-2
 unfolding handleIn
 returns-2 c = search laws

@@ -7,20 +7,16 @@ use Rattle.table_readers.proofs.tables.handle_under.Lts as lts
 use Rattle.header.proofs.frame_of.Reads as frame-of-reads
 use Rattle.ids.proofs.handle_at.Reads as handle-at-reads
 
--- src/tables.rt:158:34
 frame-of-requires : tie.Need-frame-of-requires
 frame-of-requires c κs = search laws
 
--- src/tables.rt:158:9
 handle-at-requires : tie.Need-handle-at-requires
 handle-at-requires c κs = search laws
 
--- src/tables.rt:158:9
 returns : tie.Need-returns
 unfolding handleUnder
 returns c = search laws
 
--- src/tables.rt:153:1
 returns-2 : tie.Need-returns-2
 unfolding handleUnder
 returns-2 c = search laws

@@ -7,28 +7,22 @@ use Rattle.table_readers.proofs.tables.proto.Lts as lts
 use Rattle.table_readers.proofs.tables.proto_in.Reads as proto-in-reads
 use Rattle.header.proofs.header_of.Reads as header-of-reads
 
--- src/tables.rt:44:11
 header-of-requires : tie.Need-header-of-requires
 header-of-requires c κs = search laws
 
--- src/tables.rt:45:31
 enum-known-r : tie.Need-enum-known-r
 enum-known-r c = search laws
 
--- src/tables.rt:46:27
 enum-known-h : tie.Need-enum-known-h
 enum-known-h c = search laws
 
--- src/tables.rt:46:33
 proto-in-requires : tie.Need-proto-in-requires
 proto-in-requires c κs = search laws
 
--- src/tables.rt:41:1
 returns : tie.Need-returns
 unfolding protoOf
 returns c = search laws
 
--- src/tables.rt:41:1
 returns-2 : tie.Need-returns-2
 unfolding protoOf
 returns-2 c = search laws

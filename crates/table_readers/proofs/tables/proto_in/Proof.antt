@@ -7,20 +7,16 @@ use Rattle.table_readers.proofs.tables.proto_in.Lts as lts
 use Rattle.header.proofs.frame_of.Reads as frame-of-reads
 use Rattle.ids.proofs.proto_at.Reads as proto-at-reads
 
--- src/tables.rt:55:33
 frame-of-requires : tie.Need-frame-of-requires
 frame-of-requires c κs = search laws
 
--- src/tables.rt:55:9
 proto-at-requires : tie.Need-proto-at-requires
 proto-at-requires c κs = search laws
 
--- src/tables.rt:55:9
 returns : tie.Need-returns
 unfolding protoIn
 returns c = search laws
 
--- src/tables.rt:50:1
 returns-2 : tie.Need-returns-2
 unfolding protoIn
 returns-2 c = search laws

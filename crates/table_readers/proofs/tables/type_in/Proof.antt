@@ -7,20 +7,16 @@ use Rattle.table_readers.proofs.tables.type_in.Lts as lts
 use Rattle.header.proofs.frame_of.Reads as frame-of-reads
 use Rattle.ids.proofs.type_at.Reads as type-at-reads
 
--- src/tables.rt:32:32
 frame-of-requires : tie.Need-frame-of-requires
 frame-of-requires c κs = search laws
 
--- src/tables.rt:32:9
 type-at-requires : tie.Need-type-at-requires
 type-at-requires c κs = search laws
 
--- src/tables.rt:32:9
 returns : tie.Need-returns
 unfolding typeIn
 returns c = search laws
 
--- src/tables.rt:27:1
 returns-2 : tie.Need-returns-2
 unfolding typeIn
 returns-2 c = search laws

@@ -7,28 +7,22 @@ use Rattle.table_readers.proofs.tables.type_name.Lts as lts
 use Rattle.table_readers.proofs.tables.type_in.Reads as type-in-reads
 use Rattle.header.proofs.header_of.Reads as header-of-reads
 
--- src/tables.rt:21:11
 header-of-requires : tie.Need-header-of-requires
 header-of-requires c κs = search laws
 
--- src/tables.rt:22:31
 enum-known-r : tie.Need-enum-known-r
 enum-known-r c = search laws
 
--- src/tables.rt:23:27
 enum-known-h : tie.Need-enum-known-h
 enum-known-h c = search laws
 
--- src/tables.rt:23:33
 type-in-requires : tie.Need-type-in-requires
 type-in-requires c κs = search laws
 
--- src/tables.rt:18:1
 returns : tie.Need-returns
 unfolding typeName
 returns c = search laws
 
--- src/tables.rt:18:1
 returns-2 : tie.Need-returns-2
 unfolding typeName
 returns-2 c = search laws

@@ -12,43 +12,33 @@ Inv-loop f h handles count k₀ left₀ k left = Counting (classBelow f h handle
 abbrev μ-loop : tie.MeasureT-loop
 μ-loop f h handles count k₀ left₀ k left = left
 
--- src/tables.rt:148:5
 loop-holds : tie.Need-loop-holds Inv-loop μ-loop
 loop-holds c = search laws
 
--- src/tables.rt:149:15
 check-class-requires : tie.Need-check-class-requires Inv-loop μ-loop
 check-class-requires c κs = search laws
 
--- src/tables.rt:150:30
 enum-known-r : tie.Need-enum-known-r Inv-loop μ-loop
 enum-known-r c = search laws
 
--- src/tables.rt:151:17
 returns : tie.Need-returns Inv-loop μ-loop
 returns c = search laws
 
--- src/tables.rt:154:17
 enum-told : tie.Need-enum-told Inv-loop μ-loop
 enum-told c = search laws
 
--- src/tables.rt:154:17
 add-k : tie.Need-add-k Inv-loop μ-loop
 add-k c = search laws
 
--- src/tables.rt:157:9
 sub-left : tie.Need-sub-left Inv-loop μ-loop
 sub-left c = search laws
 
--- src/tables.rt:148:5
 loop-less : tie.Need-loop-less Inv-loop μ-loop
 loop-less c = search laws
 
--- src/tables.rt:148:5
 loop-again : tie.Need-loop-again Inv-loop μ-loop
 loop-again c = search laws
 
--- src/tables.rt:143:1
 returns-2 : tie.Need-returns-2 Inv-loop μ-loop
 returns-2 c = search laws
 

@@ -5,23 +5,18 @@ use Rattle.whole_check.proofs.tables.handle_pass.Reads as reads
 use Rattle.whole_check.proofs.tables.handle_pass.Lts as lts
 use Rattle.ids.proofs.handle_at.Reads as handle-at-reads
 
--- src/tables.rt:117:11
 handle-at-requires : tie.Need-handle-at-requires
 handle-at-requires c κs = search laws
 
--- src/tables.rt:118:31
 enum-known-a : tie.Need-enum-known-a
 enum-known-a c = search laws
 
--- src/tables.rt:119:33
 enum-told : tie.Need-enum-told
 enum-told c = search laws
 
--- src/tables.rt:114:1
 returns : tie.Need-returns
 returns c = search laws
 
--- src/tables.rt:114:1
 returns-2 : tie.Need-returns-2
 returns-2 c = search laws
 

@@ -12,43 +12,33 @@ Inv-loop f r offset count k₀ left₀ k left = Counting (handleAt f r offset) c
 abbrev μ-loop : tie.MeasureT-loop
 μ-loop f r offset count k₀ left₀ k left = left
 
--- src/tables.rt:128:5
 loop-holds : tie.Need-loop-holds Inv-loop μ-loop
 loop-holds c = search laws
 
--- src/tables.rt:129:15
 handle-pass-requires : tie.Need-handle-pass-requires Inv-loop μ-loop
 handle-pass-requires c κs = search laws
 
--- src/tables.rt:130:30
 enum-known-a : tie.Need-enum-known-a Inv-loop μ-loop
 enum-known-a c = search laws
 
--- src/tables.rt:131:17
 returns : tie.Need-returns Inv-loop μ-loop
 returns c = search laws
 
--- src/tables.rt:134:17
 enum-told : tie.Need-enum-told Inv-loop μ-loop
 enum-told c = search laws
 
--- src/tables.rt:134:17
 add-k : tie.Need-add-k Inv-loop μ-loop
 add-k c = search laws
 
--- src/tables.rt:137:9
 sub-left : tie.Need-sub-left Inv-loop μ-loop
 sub-left c = search laws
 
--- src/tables.rt:128:5
 loop-less : tie.Need-loop-less Inv-loop μ-loop
 loop-less c = search laws
 
--- src/tables.rt:128:5
 loop-again : tie.Need-loop-again Inv-loop μ-loop
 loop-again c = search laws
 
--- src/tables.rt:123:1
 returns-2 : tie.Need-returns-2 Inv-loop μ-loop
 returns-2 c = search laws
 

@@ -12,43 +12,33 @@ Inv-loop f r kinds offset count k₀ left₀ k left = Counting (memberAt f r kin
 abbrev μ-loop : tie.MeasureT-loop
 μ-loop f r kinds offset count k₀ left₀ k left = left
 
--- src/tables.rt:100:5
 loop-holds : tie.Need-loop-holds Inv-loop μ-loop
 loop-holds c = search laws
 
--- src/tables.rt:101:15
 check-member-requires : tie.Need-check-member-requires Inv-loop μ-loop
 check-member-requires c κs = search laws
 
--- src/tables.rt:102:30
 enum-known-a : tie.Need-enum-known-a Inv-loop μ-loop
 enum-known-a c = search laws
 
--- src/tables.rt:103:17
 returns : tie.Need-returns Inv-loop μ-loop
 returns c = search laws
 
--- src/tables.rt:106:17
 enum-told : tie.Need-enum-told Inv-loop μ-loop
 enum-told c = search laws
 
--- src/tables.rt:106:17
 add-k : tie.Need-add-k Inv-loop μ-loop
 add-k c = search laws
 
--- src/tables.rt:109:9
 sub-left : tie.Need-sub-left Inv-loop μ-loop
 sub-left c = search laws
 
--- src/tables.rt:100:5
 loop-less : tie.Need-loop-less Inv-loop μ-loop
 loop-less c = search laws
 
--- src/tables.rt:100:5
 loop-again : tie.Need-loop-again Inv-loop μ-loop
 loop-again c = search laws
 
--- src/tables.rt:95:1
 returns-2 : tie.Need-returns-2 Inv-loop μ-loop
 returns-2 c = search laws
 

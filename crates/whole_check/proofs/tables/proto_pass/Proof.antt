@@ -7,31 +7,24 @@ use Rattle.class_walk.proofs.check_types.Reads as check-types-reads
 use Rattle.header.proofs.frame_of.Reads as frame-of-reads
 use Rattle.ids.proofs.proto_at.Reads as proto-at-reads
 
--- src/tables.rt:60:28
 frame-of-requires : tie.Need-frame-of-requires
 frame-of-requires c κs = search laws depth 7
 
--- src/tables.rt:60:11
 proto-at-requires : tie.Need-proto-at-requires
 proto-at-requires c κs = search laws depth 7
 
--- src/tables.rt:61:30
 enum-known-r : tie.Need-enum-known-r
 enum-known-r c = search laws depth 7
 
--- src/tables.rt:62:26
 enum-known-p : tie.Need-enum-known-p
 enum-known-p c = search laws depth 7
 
--- src/tables.rt:62:32
 check-types-requires : tie.Need-check-types-requires
 check-types-requires c κs = search laws depth 7
 
--- src/tables.rt:56:1
 returns : tie.Need-returns
 returns c = search laws depth 7
 
--- src/tables.rt:56:1
 returns-2 : tie.Need-returns-2
 returns-2 c = search laws depth 7
 

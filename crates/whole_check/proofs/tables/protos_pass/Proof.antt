@@ -12,43 +12,33 @@ Inv-loop f h count k₀ left₀ k left = Counting (protoBelow f h) count left k
 abbrev μ-loop : tie.MeasureT-loop
 μ-loop f h count k₀ left₀ k left = left
 
--- src/tables.rt:71:5
 loop-holds : tie.Need-loop-holds Inv-loop μ-loop
 loop-holds c = search laws
 
--- src/tables.rt:72:15
 proto-pass-requires : tie.Need-proto-pass-requires Inv-loop μ-loop
 proto-pass-requires c κs = search laws
 
--- src/tables.rt:73:30
 enum-known-r : tie.Need-enum-known-r Inv-loop μ-loop
 enum-known-r c = search laws
 
--- src/tables.rt:74:17
 returns : tie.Need-returns Inv-loop μ-loop
 returns c = search laws
 
--- src/tables.rt:77:17
 enum-told : tie.Need-enum-told Inv-loop μ-loop
 enum-told c = search laws
 
--- src/tables.rt:77:17
 add-k : tie.Need-add-k Inv-loop μ-loop
 add-k c = search laws
 
--- src/tables.rt:80:9
 sub-left : tie.Need-sub-left Inv-loop μ-loop
 sub-left c = search laws
 
--- src/tables.rt:71:5
 loop-less : tie.Need-loop-less Inv-loop μ-loop
 loop-less c = search laws
 
--- src/tables.rt:71:5
 loop-again : tie.Need-loop-again Inv-loop μ-loop
 loop-again c = search laws
 
--- src/tables.rt:66:1
 returns-2 : tie.Need-returns-2 Inv-loop μ-loop
 returns-2 c = search laws
 

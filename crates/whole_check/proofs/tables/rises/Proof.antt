@@ -4,11 +4,9 @@ use Rattle.whole_check.proofs.tables.rises.Tie as tie
 use Rattle.whole_check.proofs.tables.rises.Reads as reads
 use Rattle.whole_check.proofs.tables.rises.Lts as lts
 
--- src/tables.rt:19:9
 returns : tie.Need-returns
 returns c = search laws
 
--- src/tables.rt:15:1
 returns-2 : tie.Need-returns-2
 returns-2 c = search laws
 

@@ -13,55 +13,42 @@ Inv-loop f r offset count later₀ last₀ k₀ left₀ later last k left = Typi
 abbrev μ-loop : tie.MeasureT-loop
 μ-loop f r offset count later₀ last₀ k₀ left₀ later last k left = left
 
--- src/tables.rt:40:5
 loop-holds : tie.Need-loop-holds Inv-loop μ-loop
 loop-holds c = search laws
 
--- src/tables.rt:41:15
 type-at-requires : tie.Need-type-at-requires Inv-loop μ-loop
 type-at-requires c κs = search laws
 
--- src/tables.rt:42:34
 enum-known-a : tie.Need-enum-known-a Inv-loop μ-loop
 enum-known-a c = search laws
 
--- src/tables.rt:43:17
 returns : tie.Need-returns Inv-loop μ-loop
 returns c = search laws
 
--- src/tables.rt:45:30
 enum-known-string : tie.Need-enum-known-string Inv-loop μ-loop
 enum-known-string c = search laws
 
--- src/tables.rt:46:20
 rises-requires : tie.Need-rises-requires Inv-loop μ-loop
 rises-requires c κs = search laws
 
--- src/tables.rt:51:32
 place-of-requires : tie.Need-place-of-requires Inv-loop μ-loop
 place-of-requires c κs = search laws
 
--- src/tables.rt:49:21
 returns-2 : tie.Need-returns-2 Inv-loop μ-loop
 returns-2 c = search laws
 
--- src/tables.rt:57:9
 add-k : tie.Need-add-k Inv-loop μ-loop
 add-k c = search laws
 
--- src/tables.rt:58:9
 sub-left : tie.Need-sub-left Inv-loop μ-loop
 sub-left c = search laws
 
--- src/tables.rt:40:5
 loop-less : tie.Need-loop-less Inv-loop μ-loop
 loop-less c = search laws
 
--- src/tables.rt:40:5
 loop-again : tie.Need-loop-again Inv-loop μ-loop
 loop-again c = search laws
 
--- src/tables.rt:33:1
 returns-3 : tie.Need-returns-3 Inv-loop μ-loop
 returns-3 c = search laws
 
