@@ -1,49 +1,43 @@
 -- The reading of class data finds exactly what the rule allows.
 -- Assumes nothing.
 use Prim.Native.Nat.{ℕ, _<_, _≤_}
-use mathlib.Core.Path.{_≡_, refl, sym, subst}
+use mathlib.Core.Path.{_≡_, refl, subst}
 use mathlib.Core.List.{List}
 use lib.ListN.{length}
 use native.Mathlib.Omega.{arith}
+use Rattle.refusal.specs.Outcome.{answer, _>>=_}
 use Rattle.refusal.specs.Rows.{Found}
-use Rattle.refusal.specs.Exact.{Exact, Row}
+use Rattle.refusal.specs.Exact.{Exact}
 use Rattle.refusal.proofs.Exact.{same, answer-exact, bind-exact, exact-iff}
 use Rattle.leb128.specs.Rules.{Uleb}
 use Rattle.leb128.proofs.Exactly.{uleb-exact}
 use Rattle.frame.specs.declared.Frame.{Frame}
 use Rattle.class_members.specs.declared.Judge.{Judge}
-use Rattle.class_members.specs.Members.{begin}
-use Rattle.class_members.specs.Rules.{MemberRule, ListRule}
-use Rattle.class_members.proofs.Exactly.{list-exact, uleb-on, list-on}
+use Rattle.class_members.specs.declared.Member.{Member}
+use Rattle.class_members.specs.Members.{Run, membersAt}
+use Rattle.class_members.specs.Rules.{MembersRule}
+use Rattle.class_members.proofs.Exactly.{by-place, members-then, uleb-on, members-on}
 use Rattle.class_data.specs.declared.Counts.{Counts}
 use Rattle.class_data.specs.Data.{Both, pairAt, countsAt, Two, twoAt, fields-judge, methods-judge, ClassData, classDataAt}
 use Rattle.class_data.specs.Rules.{CountsRule, DataRule}
 
 -- ---- two lists
+abbrev two : Found (List Member) ℕ → Found (List Member) ℕ → Found Two ℕ
+two x y = record { item = record { first = x .item; second = y .item }; next = y .next }
+
 module _ (s : List ℕ) (j : Judge) (item from m n : ℕ) where
   record Both-lists (r : Found Two ℕ) : Type 0 where
     middle : ℕ
-    first-list : ListRule s j from m (r .item .first) middle
-    second-list : ListRule s j middle n (r .item .second) (r .next)
+    first-list : MembersRule s j from m (r .item .first) middle
+    second-list : MembersRule s j middle n (r .item .second) (r .next)
 
   two-exact : Exact (twoAt s j item from m n) Both-lists
   unfolding twoAt
   two-exact =
-      exact-iff (bind-exact _ _ (list-exact s j item from m) (λ x. bind-exact _ _ (list-exact s j item (x .next .place) n) (λ y. answer-exact _)))
-      (λ r h. subst Both-lists (h .1 .1 .1 .1) (record { middle = h .0 .next .place; first-list = record { run = h .0 .next; row = h .1 .0; ends = refl }; second-list = record { run = h .1 .1 .0 .next; row = h .1 .1 .1 .0; ends = refl } }))
-      (λ r h. (
-        record { item = r .item .first; next = h .first-list .run },
-        (
-          h .first-list .row,
-          (
-            record { item = r .item .second; next = h .second-list .run },
-            (
-              subst (λ (p : ℕ). Row (MemberRule s j) n (begin p) (r .item .second) (h .second-list .run)) (sym (h .first-list .ends)) (h .second-list .row),
-              λ i. record { item = r .item; next = h .second-list .ends i },
-            ),
-          ),
-        ),
-      ))
+      exact-iff (members-then s j item from m (λ (x : Found (List Member) ℕ). membersAt s j item (x .next) n >>= λ (y : Found (List Member) Run). answer (two x (by-place y))) _
+      (λ x. members-then s j item (x .next) n (λ (y : Found (List Member) ℕ). answer (two x y)) _ (λ y. answer-exact (two x y))))
+      (λ r h. subst Both-lists (h .1 .1 .1 .1) (record { middle = h .0 .next; first-list = h .1 .0; second-list = h .1 .1 .1 .0 }))
+      (λ r h. (record { item = r .item .first; next = h .middle }, (h .first-list, (record { item = r .item .second; next = r .next }, (h .second-list, refl)))))
 
 -- ---- the counts
 module _ (s : List ℕ) (item : ℕ) where
@@ -116,8 +110,8 @@ data-lies s f item d h =
     let b = uleb-on s (h .counted .instances) in
     let c = uleb-on s (h .counted .directs) in
     let e = uleb-on s (h .counted .virtuals) in
-    let x = list-on s _ (h .statics) (e .1) in
-    let y = list-on s _ (h .instances) (x .1) in
-    let z = list-on s _ (h .directs) (y .1) in
-    let w = list-on s _ (h .virtuals) (z .1) in
+    let x = members-on s _ (h .statics) (e .1) in
+    let y = members-on s _ (h .instances) (x .1) in
+    let z = members-on s _ (h .directs) (y .1) in
+    let w = members-on s _ (h .virtuals) (z .1) in
     (omega arith, w .1)

@@ -3,7 +3,7 @@ use Prim.Native.Nat.{ℕ}
 use mathlib.Core.List.{List}
 use Rattle.leb128.specs.Rules.{Uleb}
 use Rattle.frame.specs.declared.Frame.{Frame}
-use Rattle.class_members.specs.Rules.{ListRule}
+use Rattle.class_members.specs.Rules.{MembersRule}
 use Rattle.class_data.specs.declared.Counts.{Counts}
 use Rattle.class_data.specs.Data.{fields-judge, methods-judge, ClassData}
 
@@ -22,7 +22,7 @@ pub record DataRule (s : List ℕ) (f : Frame) (item : ℕ) (d : ClassData) : Ty
   pub after-statics : ℕ
   pub after-directs : ℕ
   pub counted : CountsRule s item counts after-counts
-  pub statics : ListRule s (fields-judge f) after-counts (counts .statics) (d .statics) after-statics
-  pub instances : ListRule s (fields-judge f) after-statics (counts .instances) (d .instances) (d .methods)
-  pub directs : ListRule s (methods-judge f) (d .methods) (counts .directs) (d .directs) after-directs
-  pub virtuals : ListRule s (methods-judge f) after-directs (counts .virtuals) (d .virtuals) (d .end)
+  pub statics : MembersRule s (fields-judge f) after-counts (counts .statics) (d .statics) after-statics
+  pub instances : MembersRule s (fields-judge f) after-statics (counts .instances) (d .instances) (d .methods)
+  pub directs : MembersRule s (methods-judge f) (d .methods) (counts .directs) (d .directs) after-directs
+  pub virtuals : MembersRule s (methods-judge f) after-directs (counts .virtuals) (d .virtuals) (d .end)

@@ -1,37 +1,54 @@
 -- The members of a list as rules: which bytes say what, with no walk.
-use Prim.Native.Nat.{ℕ, _+_, _<_}
+use Prim.Native.Nat.{ℕ, suc, _+_, _<_}
 use mathlib.Core.Path.{_≡_}
 use mathlib.Core.Bool.{Bool, true, false}
-use mathlib.Core.List.{List}
-use lib.ListN.{length}
-use Rattle.refusal.specs.Exact.{Row}
+use mathlib.Core.List.{List, [], _∷_}
+use lib.ListN.{length, take}
+use Rattle.refusal.specs.Exact.{Row, At, Each, Rising}
 use Rattle.leb128.specs.Rules.{Uleb}
 use Rattle.frame.specs.Offsets.{AllowedOrAbsent}
 use Rattle.class_members.specs.declared.Member.{Member}
 use Rattle.class_members.specs.declared.Judge.{Judge}
-use Rattle.class_members.specs.Members.{Run, begin}
 
 -- a method's code offset stands at p and ends at q; a field has none
-abbrev pub CodeRule : List ℕ → Bool → ℕ → ℕ → ℕ → ℕ → Type 0
-CodeRule s true start p code q = Uleb s p (record { item = code; next = q }) × AllowedOrAbsent start (length s) true code
-CodeRule s false start p code q = (0 ≡ code) × (p ≡ q)
+abbrev pub CodeOffsetRule : List ℕ → Bool → ℕ → ℕ → ℕ → ℕ → Type 0
+CodeOffsetRule s true start p code q = Uleb s p (record { item = code; next = q }) × AllowedOrAbsent start (length s) true code
+CodeOffsetRule s false start p code q = (0 ≡ code) × (p ≡ q)
 
--- a member that stands where t says: its index is the last one's and a difference, which is not 0 but in front
-pub record MemberRule (s : List ℕ) (j : Judge) (t : Run) (m : Member) (u : Run) : Type 0 where
+-- what stands in the file for a member
+pub record StoredMember : Type 0 where
   pub difference : ℕ
+  pub flags : ℕ
+  pub code : ℕ
+
+-- it stands from p to q
+pub record StoredMemberRule (s : List ℕ) (j : Judge) (p : ℕ) (t : StoredMember) (q : ℕ) : Type 0 where
   pub after-difference : ℕ
   pub after-flags : ℕ
-  pub stored : Uleb s (t .place) (record { item = difference; next = after-difference })
-  pub apart : t .later ≡ true → 0 < difference
-  pub sum : t .last .index + difference ≡ m .index
-  pub below : m .index < j .limit
-  pub flags : Uleb s after-difference (record { item = m .flags; next = after-flags })
-  pub code : CodeRule s (j .code) (j .start) after-flags (m .code) (u .place)
-  pub last : m ≡ u .last
-  pub later : true ≡ u .later
+  pub difference : Uleb s p (record { item = t .difference; next = after-difference })
+  pub flags : Uleb s after-difference (record { item = t .flags; next = after-flags })
+  pub code : CodeOffsetRule s (j .code) (j .start) after-flags (t .code) q
 
--- a list of members from p to q
-pub record ListRule (s : List ℕ) (j : Judge) (p count : ℕ) (l : List Member) (q : ℕ) : Type 0 where
-  pub run : Run
-  pub row : Row (MemberRule s j) count (begin p) l run
-  pub ends : run .place ≡ q
+-- what the differences add up to
+unfoldable pub added-up : List StoredMember → ℕ
+added-up [] = 0
+added-up (t ∷ l) = t .difference + added-up l
+
+-- member number k of those that are stored: "Member indices start with the first number and add each difference"
+pub record StoredAs (stored : List StoredMember) (k : ℕ) (m : Member) : Type 0 where
+  pub difference : ℕ
+  pub stands : At stored k (record { difference = difference; flags = m .flags; code = m .code })
+  pub index : added-up (take (suc k) stored) ≡ m .index
+
+abbrev pub LowerIndex : Member → Member → Type 0
+LowerIndex a b = a .index < b .index
+
+-- a list of members from p to q: "Each of the four lists starts anew."
+pub record MembersRule (s : List ℕ) (j : Judge) (p count : ℕ) (l : List Member) (q : ℕ) : Type 0 where
+  pub stored : List StoredMember
+  pub row : Row (StoredMemberRule s j) count p stored q
+  pub members : Each (StoredAs stored) count l
+  -- "an index in the file is out of range"
+  pub below : {k : ℕ} {m : Member} → At l k m → m .index < j .limit
+  -- "a later difference of 0 is 15": indices rise strictly
+  pub rises : Rising LowerIndex l

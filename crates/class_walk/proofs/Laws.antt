@@ -1,7 +1,7 @@
 -- What the proofs of the going over cite: the stages of a body, of class data and of a class, and the loop over methods.
 -- Assumes nothing.
 use Prim.Native.Nat.{ℕ, zero, suc, _-_, _<_, _≤_}
-use mathlib.Core.Path.{_≡_, refl, ap, sym, subst, _∙_}
+use mathlib.Core.Path.{_≡_, refl, ap, sym, _∙_}
 use mathlib.Core.Bool.{Bool, true, false, cond}
 use mathlib.Core.Logic.{_⊎_, inl, inr}
 use mathlib.Core.Option.{Option}
@@ -18,10 +18,8 @@ use Rattle.refusal.specs.Outcome.{Outcome, answer, refused, _>>=_, present, acc
 use Rattle.refusal.specs.Rows.{Found, past, collect, through, with-below}
 use Rattle.refusal.specs.Answers.{checked-outcome}
 use Rattle.refusal.proofs.Laws.{said, bind-answer, bind-refused, tests, calls, picks, leaves}
-use Rattle.refusal.proofs.Exact.{answers-equal}
 use Rattle.refusal.proofs.Rows.{bind-assoc}
 use Rattle.refusal.proofs.Kept.{kept, accepted-answer, accepted-refused, kept-part, kept-on, made-kept, absent-kept, present-kept}
-use Rattle.refusal.proofs.Choose.{row-length}
 use Rattle.refusal.proofs.Through.{gone-over}
 use Rattle.refusal.proofs.Loops.{Gather, gather-first, gather-next, gather-stop, gather-done}
 use Rattle.frame.specs.declared.Frame.{Frame}
@@ -39,28 +37,27 @@ use Rattle.class_members.specs.declared.MemberFound.the-variants as F
 use Rattle.class_members.specs.Answers.{found-outcome}
 use Rattle.class_members.specs.Members.{Run, memberAt, stepAt, begin, membersAt, nobody}
 use Rattle.class_data.specs.Data.{ClassData, classDataAt, methodsAt, methods-judge}
-use Rattle.class_members.specs.Rules.{ListRule}
-use Rattle.class_members.proofs.Exactly.{list-exact}
+use Rattle.class_members.specs.Rules.{MembersRule}
+use Rattle.class_members.proofs.Exactly.{members-read}
 use Rattle.class_data.proofs.Exactly.{data-exact}
 use Rattle.class_data.proofs.Laws.{on-methods}
 use Rattle.code_item.specs.declared.Outline.{Outline}
 use Rattle.code_item.specs.declared.CodeAnswer.{CodeAnswer}
 use Rattle.code_item.specs.Answers.{code-outcome}
-use Rattle.code_bodies.specs.Code.{Code, codeAt}
+use Rattle.code_bodies.specs.Code.{codeAt}
 use Rattle.code_item.specs.Code.{outline, outlineAt}
-use Rattle.debug_info.specs.Debug.{Debug, debugAt, Extent, extentAt}
+use Rattle.debug_info.specs.Debug.{debugAt, extentAt}
 use Rattle.debug_info.proofs.Laws.{on-debug}
 use Rattle.value_heads.specs.declared.Walk.{Walk}
 use Rattle.value_heads.specs.Kinds.{walkOf}
-use Rattle.encoded_value.specs.Tree.{Tree}
 use Rattle.encoded_value.specs.Readings.{arrayAt, pastArray}
 use Rattle.encoded_value.proofs.Leaves.{on-step}
-use Rattle.annotation_walk.specs.Below.{Annotated, directoryBelow}
+use Rattle.annotation_walk.specs.Below.{directoryBelow}
 use Rattle.table_readers.specs.Lists.{list-judge, listCount}
 use Rattle.class_walk.specs.declared.Passed.{Passed}
 use Rattle.class_walk.specs.Answers.{passed-outcome}
 use Rattle.class_walk.specs.Methods.{Body, DataBelow, bodyAt, methodBelow, dataBelow, debugAccepted, methodsPass, bothPass}
-use Rattle.class_walk.specs.Classes.{ClassBelow, typesAt, valuesAt, annotationsAt, dataAt, staticsAt, below, classBelow, belowPass}
+use Rattle.class_walk.specs.Classes.{typesAt, valuesAt, annotationsAt, dataAt, staticsAt, below, classBelow, belowPass}
 
 -- ---- a body
 pub debug-by : (s : List ℕ) (strings item : ℕ) {y : Outcome Unit} → y ≡ (extentAt s strings item >>= accepted) → y ≡ (debugAt s strings item >>= accepted)
@@ -151,15 +148,14 @@ module _ (s : List ℕ) (f : Frame) (item : ℕ) where
   abbrev to : ℕ → List (Option Body) → Outcome ℕ
   to q bs = answer q
 
-  passed-again : {p n q : ℕ} {l : List Member} → ListRule s (methods-judge f) p n l q → methodsPass s f item p (length l) ≡ (through (methodBelow s f) l >>= to q)
+  passed-again : {p n q : ℕ} {l : List Member} → MembersRule s (methods-judge f) p n l q → methodsPass s f item p (length l) ≡ (through (methodBelow s f) l >>= to q)
   unfolding methodsPass membersAt
   passed-again {p} {n} {q} {l} h =
-      let size = row-length (h .row) in
-      let read = list-exact s (methods-judge f) item p n .complete (record { item = l; next = h .run }) (h .row) in
-      ap (λ (k : ℕ). collect k (going s f item) (begin p) >>= λ (r : Found (List (Option Body)) Run). answer (r .next .place)) size
-      ∙ ap (λ (o : Outcome (Found (List (Option Body)) Run)). o >>= λ (r : Found (List (Option Body)) Run). answer (r .next .place)) (gone-over (stepAt s (methods-judge f) item) (methodBelow s f) n (begin p) (record { item = l; next = h .run }) read)
+      let read = members-read s (methods-judge f) item p n h in
+      ap (λ (k : ℕ). collect k (going s f item) (begin p) >>= λ (r : Found (List (Option Body)) Run). answer (r .next .place)) (h .members .count)
+      ∙ ap (λ (o : Outcome (Found (List (Option Body)) Run)). o >>= λ (r : Found (List (Option Body)) Run). answer (r .next .place)) (gone-over (stepAt s (methods-judge f) item) (methodBelow s f) n (begin p) (record { item = l; next = read .0 }) (read .1 .0))
       ∙ bind-assoc (through (methodBelow s f) l) _ _
-      ∙ (λ i. through (methodBelow s f) l >>= λ (bs : List (Option Body)). (bind-answer {o = answer (record { item = bs; next = h .run })} (λ (r : Found (List (Option Body)) Run). answer (r .next .place)) refl ∙ ap answer (h .ends)) i)
+      ∙ (λ i. through (methodBelow s f) l >>= λ (bs : List (Option Body)). (bind-answer {o = answer (record { item = bs; next = read .0 })} (λ (r : Found (List (Option Body)) Run). answer (r .next .place)) refl ∙ ap answer (read .1 .1)) i)
 
   abbrev methods-of : ClassData → Methods
   methods-of d = record { directs = length (d .directs); virtuals = length (d .virtuals); from = d .methods }

@@ -18,7 +18,7 @@ use Rattle.header.specs.declared.Shape.{Shape}
 use Rattle.header.specs.declared.Three.{Three}
 use Rattle.header.specs.declared.Section.{Section}
 use Rattle.header.specs.Header.{fourOf, four, versionAt, orderAt, tableAllowed, tableOf, tableAt, threeAt, sectionOf, sectionAt, joined, sectionedAt, tablesAt, bodyOf, bodyAt, versionedAt, headerAt, strings-shape, types-shape, protos-shape, fields-shape, methods-shape, classes-shape}
-use Rattle.header.specs.Rules.{Four, Tagged, TableRule, TableAt, HeaderRule}
+use Rattle.header.specs.Rules.{Four, VersionRule, version-035, version-037, version-038, version-039, Tagged, TableRule, TableAt, HeaderRule}
 
 four-decides : (f : List ℕ) (p a b c d : ℕ) → Decides (four f p a b c d) (Four f p a b c d)
 unfolding four fourOf
@@ -28,6 +28,44 @@ four-decides f p a b c d =
       sound = λ t. let h = all .sound t in record { first = h .0; second = h .1 .0; third = h .1 .1 .0; fourth = h .1 .1 .1 };
       complete = λ h. all .complete (h .first, (h .second, (h .third, h .fourth)));
     }
+
+four-not : (f : List ℕ) (p a b c d : ℕ) → (Four f p a b c d → ⊥) → four f p a b c d ≡ false
+four-not f p a b c d h = go (four f p a b c d) refl
+  where
+    go : (t : Bool) → four f p a b c d ≡ t → t ≡ false
+    go true e = absurd (h (four-decides f p a b c d .sound e))
+    go false e = refl
+
+module _ (f : List ℕ) where
+  version-sound : 0 < versionAt f → VersionRule f (versionAt f)
+  unfolding versionAt
+  version-sound = go _ _ _ _ (four-decides f 4 0x30 0x33 0x35 0) (four-decides f 4 0x30 0x33 0x37 0) (four-decides f 4 0x30 0x33 0x38 0) (four-decides f 4 0x30 0x33 0x39 0)
+    where
+      go : (w x y z : Bool) → Decides w (Four f 4 0x30 0x33 0x35 0) → Decides x (Four f 4 0x30 0x33 0x37 0) → Decides y (Four f 4 0x30 0x33 0x38 0) → Decides z (Four f 4 0x30 0x33 0x39 0)
+          → 0 < cond w 35 (cond x 37 (cond y 38 (cond z 39 0))) → VersionRule f (cond w 35 (cond x 37 (cond y 38 (cond z 39 0))))
+      go true x y z a b c d p = version-035 (a .sound refl)
+      go false true y z a b c d p = version-037 (b .sound refl)
+      go false false true z a b c d p = version-038 (c .sound refl)
+      go false false false true a b c d p = version-039 (d .sound refl)
+      go false false false false a b c d p = absurd (omega arith)
+
+  -- the versions differ in their third byte
+  other-version : {c : ℕ} (d : ℕ) → Four f 4 0x30 0x33 c 0 → (c ≡ d → ⊥) → four f 4 0x30 0x33 d 0 ≡ false
+  other-version d h n = four-not f 4 0x30 0x33 d 0 λ k. n (sym (h .third) ∙ k .third)
+
+  version-complete : (v : ℕ) → VersionRule f v → versionAt f ≡ v
+  unfolding versionAt
+  version-complete v (version-035 h) = rw (four-decides f 4 0x30 0x33 0x35 0 .complete h)
+  version-complete v (version-037 h) = rw (other-version 0x35 h (λ e. omega arith), four-decides f 4 0x30 0x33 0x37 0 .complete h)
+  version-complete v (version-038 h) = rw (other-version 0x35 h (λ e. omega arith), other-version 0x37 h (λ e. omega arith), four-decides f 4 0x30 0x33 0x38 0 .complete h)
+  version-complete v (version-039 h) =
+      rw (other-version 0x35 h (λ e. omega arith), other-version 0x37 h (λ e. omega arith), other-version 0x38 h (λ e. omega arith), four-decides f 4 0x30 0x33 0x39 0 .complete h)
+
+  version-known : (v : ℕ) → VersionRule f v → 0 < v
+  version-known v (version-035 h) = omega arith
+  version-known v (version-037 h) = omega arith
+  version-known v (version-038 h) = omega arith
+  version-known v (version-039 h) = omega arith
 
 -- the two tags differ in their first byte
 order-exact : (f : List ℕ) → Exact (orderAt f) (Tagged f)
@@ -143,8 +181,7 @@ unstaged f h long short magic known s = subst (HeaderRule f) (s .tables .is) (re
   long = long;
   short = short;
   magic = magic;
-  version = refl;
-  known = known;
+  version = version-sound f known;
   tag = s .tag;
   header-size = s .header-size;
   file-size = s .file-size;
@@ -181,7 +218,7 @@ staged f h r = record {
       end = r .end;
     };
     is = λ i. record {
-      version = r .version i;
+      version = version-complete f (h .version) (r .version) i;
       order = h .order;
       checksum = r .checksum i;
       map = r .map i;
@@ -201,7 +238,7 @@ pub header-exact : (f : List ℕ) → Exact (headerAt f) (HeaderRule f)
 header-exact f =
     exact-iff (header-staged f)
     (λ h p. unstaged f h (p .0) (p .1 .0) (p .1 .1 .0) (p .1 .1 .1 .0) (p .1 .1 .1 .1))
-    (λ h r. (r .long, (r .short, (r .magic, (subst (λ (x : ℕ). 0 < x) (sym (r .version)) (r .known), staged f h r)))))
+    (λ h r. (r .long, (r .short, (r .magic, (subst (λ (x : ℕ). 0 < x) (sym (version-complete f (h .version) (r .version))) (version-known f (h .version) (r .version)), staged f h r)))))
 
 -- any two readings of a header are equal
 pub header-same : (f : List ℕ) (a b : Header) → HeaderRule f a → HeaderRule f b → a ≡ b

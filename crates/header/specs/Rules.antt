@@ -9,7 +9,7 @@ use Rattle.word.specs.declared.Endian.the-variants.{Little, Big}
 use Rattle.header.specs.declared.Table.{Table}
 use Rattle.header.specs.declared.Header.{Header}
 use Rattle.header.specs.declared.Shape.{Shape}
-use Rattle.header.specs.Header.{versionAt, strings-shape, types-shape, protos-shape, fields-shape, methods-shape, classes-shape}
+use Rattle.header.specs.Header.{strings-shape, types-shape, protos-shape, fields-shape, methods-shape, classes-shape}
 
 -- these four bytes stand at p
 pub record Four (f : List ℕ) (p a b c d : ℕ) : Type 0 where
@@ -17,6 +17,13 @@ pub record Four (f : List ℕ) (p a b c d : ℕ) : Type 0 where
   pub second : getD f (p + 1) 0 ≡ b
   pub third : getD f (p + 2) 0 ≡ c
   pub fourth : getD f (p + 3) 0 ≡ d
+
+-- "next four not 035, 037, 038 or 039 and a zero byte": the four bytes of each version, at 4
+pub data VersionRule (f : List ℕ) : ℕ → Type 0 where
+  version-035 : Four f 4 0x30 0x33 0x35 0 → VersionRule f 35
+  version-037 : Four f 4 0x30 0x33 0x37 0 → VersionRule f 37
+  version-038 : Four f 4 0x30 0x33 0x38 0 → VersionRule f 38
+  version-039 : Four f 4 0x30 0x33 0x39 0 → VersionRule f 39
 
 -- the endian tag
 abbrev pub Tagged : List ℕ → Endian → Type 0
@@ -41,8 +48,7 @@ pub record HeaderRule (f : List ℕ) (h : Header) : Type 0 where
   pub long : 112 ≤ length f
   pub short : length f ≤ 67108864
   pub magic : Four f 0 0x64 0x65 0x78 0x0a
-  pub version : versionAt f ≡ h .version
-  pub known : 0 < h .version
+  pub version : VersionRule f (h .version)
   pub tag : Tagged f (h .order)
   pub header-size : u32At (h .order) f 36 ≡ 112
   pub file-size : u32At (h .order) f 32 ≡ length f

@@ -6,7 +6,6 @@ use mathlib.Core.Logic.{_⊎_, inl, inr}
 use mathlib.Core.Bool.{Bool, true, false, cond, false≢true}
 use mathlib.Core.Option.{Option, none, some}
 use mathlib.Core.List.{List, []}
-use lib.ListN.{length}
 use lib.Dec.{eqb}
 use borrow.Author.Tests.{eq-eqb}
 use native.Mathlib.Omega.{arith}
@@ -19,7 +18,7 @@ use Rattle.class_ids.specs.Classes.{maybeOf}
 use Rattle.class_ids.specs.Rules.{IndexOrNone}
 use Rattle.class_members.specs.declared.Member as M
 use Rattle.class_members.specs.declared.Judge.{Judge}
-use Rattle.class_members.specs.Rules.{ListRule}
+use Rattle.class_members.specs.Rules.{MembersRule}
 use Rattle.handlers.specs.declared.Pair.{Pair}
 use Rattle.handlers.specs.Handlers.{Handler, HandlerList}
 use Rattle.handlers.specs.Rules.{HandlersRule}
@@ -110,8 +109,8 @@ module _ (f : List ℕ) {r : File} (reads : Reads f r) where
   bodies-in {l} {m} both = alike-all (If-there (BodyIndices r)) (λ x o rule. if-present (BodyIndices r) (λ b q. body-in b q) rule) l m both
 
   -- ---- class data
-  members-in : (j : Judge) (Own : ℕ → Type 0) → ((n : ℕ) → n < j .limit → Own n) → {p count q : ℕ} {l : List M.Member} → ListRule (section f (r .header)) j p count l q → All (λ (m : M.Member). Own (m .index)) l
-  members-in j Own low rule = row-all (λ (m : M.Member). Own (m .index)) (λ s m t h. low (m .index) (h .below)) (rule .row)
+  members-in : (j : Judge) (Own : ℕ → Type 0) → ((n : ℕ) → n < j .limit → Own n) → {p count q : ℕ} {l : List M.Member} → MembersRule (section f (r .header)) j p count l q → All (λ (m : M.Member). Own (m .index)) l
+  members-in j Own low rule k m p = low (m .index) (rule .below p)
 
   data-in : {at : ℕ} (d : DataBelow) → DataBelowRule (section f (r .header)) (frame-of (r .header) 0) at d → DataIndices r d
   data-in d rule =
