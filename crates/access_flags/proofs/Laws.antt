@@ -16,7 +16,7 @@ use mir.Val.{Fits}
 use Rattle.refusal.specs.Outcome.{Outcome, answer, refused, _>>=_}
 use Rattle.refusal.proofs.Laws.{said, passes, fails}
 use Rattle.access_flags.specs.declared.FlagsAnswer.{FlagsAnswer}
-use Rattle.access_flags.specs.Flags.{kept, bits, flags, filled, written, content}
+use Rattle.access_flags.specs.Flags.{kept, bits, flag-bits, flags, filled, written, content}
 use Rattle.access_flags.specs.Answers.{flags-outcome}
 
 -- ---- the test of a bit
@@ -53,10 +53,10 @@ module _ (class : Bool) (i v : ℕ) {b : Bool} (asked : b ≡ kept class i v) wh
 -- ---- the loop of `count_of`: n numbers were found
 pub record Counting (class : Bool) (value n i v left : ℕ) : Type 0 where
   all : n + length (bits left class i v) ≡ length (flags class value)
-  sum : i + left ≡ 18
+  sum : i + left ≡ flag-bits
   few : n ≤ i
 
-pub counting-first : (class : Bool) (value : ℕ) → Counting class value 0 0 value 18
+pub counting-first : (class : Bool) (value : ℕ) → Counting class value 0 0 value flag-bits
 unfolding flags
 counting-first class value = record { all = omega arith; sum = omega arith; few = omega arith }
 
@@ -91,10 +91,10 @@ pub record Filling (class : Bool) (value : ℕ) (out₀ out : List ℕ) (p i v l
   same : filled (flags class value) out₀ ≡ take p out ++ filled (bits left class i v) (drop p out)
   pub long : length out ≡ length out₀
   room : p + length (bits left class i v) ≤ length out
-  sum : i + left ≡ 18
+  sum : i + left ≡ flag-bits
   few : p ≤ i
 
-pub filling-first : (class : Bool) (value : ℕ) (out : List ℕ) → length (flags class value) ≤ length out → Filling class value out out 0 0 value 18
+pub filling-first : (class : Bool) (value : ℕ) (out : List ℕ) → length (flags class value) ≤ length out → Filling class value out out 0 0 value flag-bits
 unfolding flags
 filling-first class value out h = record { same = refl; long = refl; room = omega arith; sum = omega arith; few = omega arith }
 

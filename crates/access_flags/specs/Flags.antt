@@ -15,8 +15,12 @@ unfoldable pub bits : ℕ → Bool → ℕ → ℕ → List ℕ
 bits zero class i v = []
 bits (suc n) class i v = cond (kept class i v) (i ∷ bits n class (i + 1) (v / 2)) (bits n class (i + 1) (v / 2))
 
+-- "bit numbers 0 to 17"
+abbrev pub flag-bits : ℕ
+flag-bits = 18
+
 unfoldable pub flags : Bool → ℕ → List ℕ
-flags class value = bits 18 class 0 value
+flags class value = bits flag-bits class 0 value
 
 -- numbers over the front of an output
 unfoldable pub filled : List ℕ → List ℕ → List ℕ

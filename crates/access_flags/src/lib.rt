@@ -6,6 +6,9 @@ ghost use lib.ListN.{length};
 ghost use Rattle.access_flags.specs.Flags.{kept, flags, filled, written, content};
 ghost use Rattle.access_flags.specs.Answers.{flags-outcome};
 
+// Bit numbers 0 to 17: `flag-bits` in the definitions.
+const FLAG_BITS: u32 = 18;
+
 pub enum FlagsAnswer {
     Got(usize),
     Refused(Refusal),
@@ -34,7 +37,7 @@ fn count_of(value: u32, class: bool) -> usize
     let mut n: usize = 0;
     let mut i: u8 = 0;
     let mut v = value;
-    let mut left: u32 = 18;
+    let mut left: u32 = FLAG_BITS;
     while 0 < left {
         if is_kept(class, i, v) {
             n += 1;
@@ -58,7 +61,7 @@ fn fill(value: u32, class: bool, out: &mut [u8])
     let mut p: usize = 0;
     let mut i: u8 = 0;
     let mut v = value;
-    let mut left: u32 = 18;
+    let mut left: u32 = FLAG_BITS;
     while 0 < left {
         if is_kept(class, i, v) {
             out[p] = i;

@@ -6,15 +6,15 @@ use mathlib.Core.List.{List}
 use Rattle.refusal.specs.Outcome.{answer}
 use Rattle.refusal.specs.Exact.{Exact, Sought}
 use Rattle.refusal.proofs.Exact.{same, exact-iff, accepted-iff}
-use Rattle.refusal.proofs.Laws.{bind-answer}
 use Rattle.header.specs.declared.Header.{Header}
-use Rattle.header.specs.Header.{headerAt, frame-of}
-use Rattle.header.proofs.Exactly.{header-exact}
+use Rattle.header.specs.Header.{frame-of}
+use Rattle.header.proofs.Exactly.{header-same}
 use Rattle.text.specs.Text.{Text}
-use Rattle.string_ids.specs.Strings.{lookedUp}
-use Rattle.string_ids.proofs.Exactly.{strings-same, bytes-distinct, lookup-exact}
+use Rattle.string_ids.specs.Rules.{LookupRule}
+use Rattle.string_ids.proofs.Exactly.{strings-same, bytes-distinct}
 use Rattle.ids.proofs.Exactly as I
 use Rattle.table_readers.specs.Strings.{findString}
+use Rattle.table_readers.proofs.Exactly.{find-string-exact}
 use Rattle.whole_check.specs.File.{File, checkAt}
 use Rattle.promises.specs.Reads.{Reads}
 use Rattle.promises.specs.Promises.{Promises}
@@ -27,12 +27,11 @@ use Rattle.promises.proofs.Given.{readers-answer}
 
 module _ (f : List ℕ) {r : File} (reads : Reads f r) where
   finds : (text : List ℕ) → Exact (findString f text) (Sought (λ (t : Text). t .bytes ≡ text) (r .strings))
-  unfolding findString
   finds text =
-      let said = bind-answer (λ (h : Header). lookedUp f h text) (header-exact f .complete (r .header) (reads .header)) in
-      rw said (exact-iff (lookup-exact f (r .header) text)
-      (λ o p. subst (λ (l : List Text). Sought (λ (t : Text). t .bytes ≡ text) l o) (strings-same f (r .header) (p .0) (r .strings) (p .1 .0) (reads .strings)) (p .1 .1))
-      (λ o p. (r .strings, (reads .strings, p))))
+      exact-iff (find-string-exact f text)
+      (λ o p. let found = subst (λ (h : Header). LookupRule f h text o) (header-same f (p .header) (r .header) (p .header-rule) (reads .header)) (p .lookup) in
+      subst (λ (l : List Text). Sought (λ (t : Text). t .bytes ≡ text) l o) (strings-same f (r .header) (found .strings) (r .strings) (found .rules) (reads .strings)) (found .number))
+      (λ o p. record { header = r .header; header-rule = reads .header; lookup = record { strings = r .strings; rules = reads .strings; number = p } })
 
 pub promises : (f : List ℕ) → Promises f
 unfolding checkAt

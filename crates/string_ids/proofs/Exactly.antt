@@ -21,7 +21,7 @@ use Rattle.text.proofs.Exactly.{string-exact}
 use Rattle.text_order.proofs.Ordered.{strict, before-decides}
 use Rattle.text_order.proofs.ByUnits.{texts-once, same-bytes}
 use Rattle.string_ids.specs.Strings.{placeOf, recordOf, recordAt, stringOf, before, stringsAt, is, lookedUp}
-use Rattle.string_ids.specs.Rules.{StringAt, Precedes, StringsRule}
+use Rattle.string_ids.specs.Rules.{StringAt, Precedes, StringsRule, LookupRule}
 
 record-exact : (f : List ℕ) (h : Header) (n : ℕ) → Exact (recordAt f h n) (λ (p : ℕ). Allowed (h .start) (h .end) false (u32At (h .order) f (placeOf h n)) × (u32At (h .order) f (placeOf h n) ≡ p))
 unfolding recordAt recordOf
@@ -63,12 +63,16 @@ module _ (f : List ℕ) (h : Header) {l : List Text} (r : StringsRule f h l) {i 
   bytes-distinct e = strings-distinct (texts-once (r .each .each m .text) (r .each .each n .text) .0 e)
 
 -- ---- the lookup: a number whose string has those bytes, and none exactly where no string has them
-pub lookup-exact : (f : List ℕ) (h : Header) (text : List ℕ) → Exact (lookedUp f h text) (λ (o : Option ℕ). (l : List Text) × (StringsRule f h l × Sought (λ (t : Text). t .bytes ≡ text) l o))
+pub lookup-exact : (f : List ℕ) (h : Header) (text : List ℕ) → Exact (lookedUp f h text) (LookupRule f h text)
 unfolding lookedUp
 lookup-exact f h text =
     exact-iff (bind-exact _ _ (strings-exact f h) (λ l. answer-exact (position (is text) l)))
-    (λ o p. (p .0, (p .1 .0, subst (Sought _ (p .0)) (p .1 .1) (sought (p .0)))))
-    (λ o p. (p .0, (p .1 .0, sought-same (λ i k a b m n x y. bytes-distinct f h (p .1 .0) m n (x ∙ sym y)) (sought (p .0)) (p .1 .1))))
+    (λ o p. record { strings = p .0; rules = p .1 .0; number = subst (Sought _ (p .0)) (p .1 .1) (sought (p .0)) })
+    (λ o p. (p .strings, (p .rules, sought-same (λ i k a b m n x y. bytes-distinct f h (p .rules) m n (x ∙ sym y)) (sought (p .strings)) (p .number))))
   where
     sought : (l : List Text) → Sought (λ (t : Text). t .bytes ≡ text) l (position (is text) l)
     sought l = position-sought (is text) (λ t. same-bytes (t .bytes) text) l
+
+-- .. and so one answer
+pub lookup-same : (f : List ℕ) (h : Header) (text : List ℕ) (o p : Option ℕ) → LookupRule f h text o → LookupRule f h text p → o ≡ p
+lookup-same f h text = same (lookup-exact f h text)

@@ -1,10 +1,11 @@
--- The string table as a rule: what stands where, with no walk.
+-- The string table and the lookup as rules: what stands where, with no walk.
 use Prim.Native.Nat.{ℕ}
 use mathlib.Core.Path.{_≡_}
 use mathlib.Core.Bool.{false}
+use mathlib.Core.Option.{Option}
 use mathlib.Core.List.{List}
 use lib.ListN.{length}
-use Rattle.refusal.specs.Exact.{Each, Rising}
+use Rattle.refusal.specs.Exact.{Each, Rising, Sought}
 use Rattle.word.specs.Words.{u32At}
 use Rattle.header.specs.declared.Header.{Header}
 use Rattle.header.specs.Header.{section}
@@ -28,3 +29,9 @@ Precedes a b = Before (a .units) (b .units)
 pub record StringsRule (f : List ℕ) (h : Header) (l : List Text) : Type 0 where
   pub each : Each (StringAt f h) (h .strings .count) l
   pub order : Rising Precedes l
+
+-- "Looking up a text answers its number, or "none" exactly when no string of the table has those bytes. The lookup applies each string's rules .. first, the order rule included."
+pub record LookupRule (f : List ℕ) (h : Header) (text : List ℕ) (found : Option ℕ) : Type 0 where
+  pub strings : List Text
+  pub rules : StringsRule f h strings
+  pub number : Sought (λ (t : Text). t .bytes ≡ text) strings found

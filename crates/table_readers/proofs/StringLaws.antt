@@ -28,7 +28,8 @@ use Rattle.text.specs.declared.TextAnswer.the-variants as T
 use Rattle.string_ids.specs.Strings.{stringOf, stringExtent}
 use Rattle.string_ids.proofs.Exactly.{string-of-exact}
 use Rattle.table_readers.specs.Strings.{stringNumber, bytesOf, stringExtentOf, stringIn}
-use Rattle.table_readers.proofs.Exactly.{StringNumber, string-number-exact}
+use Rattle.table_readers.specs.Rules.{StringNumber}
+use Rattle.table_readers.proofs.Exactly.{string-number-exact}
 
 -- the code's order of doing it
 pub extent-by : (f : List ℕ) (n : ℕ) {y : Outcome Extent} → y ≡ (headerAt f >>= stringIn f n) → y ≡ stringExtentOf f n
