@@ -248,7 +248,7 @@ def main():
     for name, f in files:
         open(f'{folder}/{name}', 'wb').write(f)
     open('crates/replay/args', 'w').write(''.join(name + '\n' for name, _ in files))
-    open('crates/replay/stdout', 'w').write(''.join(f'{name}\n{report(f)}' for name, f in files))
+    open('crates/replay/stdout', 'w').write(''.join(f'file={name}\n{report(f)}' for name, f in files))
     for n in CORPUS:
         said = report(open(f'{corpus}/made/{n}.dex', 'rb').read()).split()
         print(n, ' '.join(said[:3]), "ART's verifier:", status[f'made/{n}.dex'])

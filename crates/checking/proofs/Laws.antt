@@ -1,4 +1,4 @@
--- A report that was written fits the output that was lent for it.
+-- What the functions' proofs cite: a report that was written fits the output that was lent for it, and what an input comes to.
 -- Assumes nothing.
 use Prim.Native.Nat.{ℕ, _≤_}
 use mathlib.Core.Path.{_≡_, ap, sym, _∙_}
@@ -11,6 +11,12 @@ use Rattle.report.specs.declared.ReportAnswer as R
 use Rattle.report.specs.Answers.{report-outcome}
 use Rattle.report.specs.Stored.{written}
 use Rattle.report.proofs.Laws.{got-within}
+use Rattle.refusal.specs.Outcome.{Outcome}
+use Rattle.header.specs.declared.Header.{Header}
+use Rattle.header.specs.declared.HeaderAnswer.{HeaderAnswer}
+use Rattle.header.specs.Answers.{header-outcome}
+use Rattle.file_report.specs.Verdict.{inputAt}
+use Rattle.checking.specs.Status.{status, Comes, said, unsaid}
 
 -- of the output as it is afterwards
 pub within : (x : ReportAnswer) (text before after : List ℕ) (k : ℕ) → report-outcome x ≡ written text (length before) → x ≡ R.the-variants.Got k → length after ≡ length before → k ≤ length after
@@ -19,4 +25,10 @@ within x text before after k e c l = rw l (got-within text (length before) k (sy
 pub prefix-long : (x : ReportAnswer) (text before after : List ℕ) (k : ℕ) → report-outcome x ≡ written text (length before) → x ≡ R.the-variants.Got k → length after ≡ length before → k ≡ length (take k after)
 prefix-long x text before after k e c l = sym (length-take-le k after (within x text before after k e c l))
 
-pub ruleset laws = (within, prefix-long, needs)
+pub verdict-said : (f : List ℕ) (v : HeaderAnswer) (s : ℕ) → header-outcome v ≡ inputAt f → s ≡ status (header-outcome v) → Comes f s
+verdict-said f v s e q = said (q ∙ ap (λ (o : Outcome Header). status o) e)
+
+pub nothing-said : (f : List ℕ) (s : ℕ) → 2 ≤ s → Comes f s
+nothing-said f s l = unsaid l
+
+pub ruleset laws = (within, prefix-long, verdict-said, nothing-said, needs)

@@ -1,0 +1,53 @@
+use borrow.Author.Needs.{needs as laws}
+use Prim.Native.Nat.{_-_}
+use Rattle.checking.proofs.check_arguments.Statement.{statement}
+use Rattle.checking.proofs.check_arguments.Tie as tie
+use Rattle.checking.proofs.check_arguments.Reads as reads
+use Rattle.checking.proofs.check_arguments.Lts as lts
+use Rattle.checking.proofs.check_argument.Reads as check-argument-reads
+use Rattle.checking.proofs.worse.Reads as worse-reads
+
+abbrev Inv-loop : tie.InvT-loop
+Inv-loop first count worst₀ i₀ worst i = Unit {0}
+
+abbrev μ-loop : tie.MeasureT-loop
+μ-loop first count worst₀ i₀ worst i = count - i
+
+loop-holds : tie.Need-loop-holds Inv-loop μ-loop
+loop-holds c = search laws
+
+check-argument-requires : tie.Need-check-argument-requires Inv-loop μ-loop
+check-argument-requires c κs = search laws
+
+worse-requires : tie.Need-worse-requires Inv-loop μ-loop
+worse-requires c κs = search laws
+
+returns : tie.Need-returns Inv-loop μ-loop
+returns c = search laws
+
+add-i : tie.Need-add-i Inv-loop μ-loop
+add-i c = search laws
+
+loop-less : tie.Need-loop-less Inv-loop μ-loop
+loop-less c = search laws
+
+loop-again : tie.Need-loop-again Inv-loop μ-loop
+loop-again c = search laws
+
+returns-2 : tie.Need-returns-2 Inv-loop μ-loop
+returns-2 c = search laws
+
+pub check-arguments-spec : {M : Type 1} → statement M
+check-arguments-spec =
+    tie.close
+    (tie.spec
+    Inv-loop
+    μ-loop
+    loop-holds
+    check-argument-requires
+    worse-requires
+    returns
+    add-i
+    loop-less
+    loop-again
+    returns-2)

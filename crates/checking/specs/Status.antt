@@ -1,0 +1,21 @@
+-- What an input comes to, the worse the higher: 0 accepted, 1 refused, 2 without a report, 3 a write that failed.
+use Prim.Native.Nat.{ℕ, _+_, _≤_, min}
+use mathlib.Core.Path.{_≡_}
+use mathlib.Core.List.{List}
+use Rattle.refusal.specs.Outcome.{Outcome, answer, refused}
+use Rattle.header.specs.declared.Header.{Header}
+use Rattle.file_report.specs.Verdict.{inputAt}
+
+-- an input that was read, by its verdict
+abbrev pub status : Outcome Header → ℕ
+status (answer h) = 0
+status (refused r) = 1
+
+-- the exit status as an ASCII digit: 2 stands for what was not read and for what was not written
+abbrev pub digit : ℕ → ℕ
+digit s = 48 + min s 2
+
+-- what an input comes to whose bytes these are: what its verdict says, unless that could not be written
+pub data Comes (f : List ℕ) (s : ℕ) : Type 0 where
+  said : s ≡ status (inputAt f) → Comes f s
+  unsaid : 2 ≤ s → Comes f s
