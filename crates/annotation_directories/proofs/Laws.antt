@@ -19,7 +19,7 @@ use Rattle.refusal.specs.Answers.{checked-outcome}
 use Rattle.refusal.proofs.Kept.{on-checked, accepted-answer, accepted-refused, part-answer, part-refused}
 use Rattle.word.specs.Words.{u32At}
 use Rattle.frame.specs.declared.Frame.{Frame}
-use Rattle.value_heads.proofs.Numbers.{room-there, room-fits}
+use Rattle.word.proofs.Laws.{room-there, room-fits}
 use Rattle.encoded_value.proofs.Leaves.{on-step}
 use Rattle.value_bodies.proofs.Picks.{pick-none}
 use Rattle.annotation_lists.specs.Fixed.{entriesFrom, fixedAt, Fixed}

@@ -125,7 +125,7 @@ fn list_past(s: &[u8], f: Frame, item: usize, limit: u32, from: usize, count: u3
     ensures { λ r. ⌜ step-outcome r ≡ listPast (now (s .entry)) f item limit from count ⌝ }
 {
     let size = 8 * count as usize;
-    if value_heads::has_room(s.len(), from, size) {
+    if word::has_room(s.len(), from, size) {
         match entries_pass(s, f, item, limit, from, count) {
             Checked::Refused(r) => {
                 return Step::Refused(r);

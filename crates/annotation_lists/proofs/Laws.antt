@@ -16,7 +16,7 @@ use Rattle.refusal.proofs.Laws.{said, calls, tests, bind-answer, bind-refused, 
 use Rattle.refusal.specs.Answers.{checked-outcome}
 use Rattle.refusal.proofs.Kept.{accepted-answer, accepted-refused, part-answer, part-refused}
 use Rattle.refusal.proofs.Exact.{answers-equal, never}
-use Rattle.value_heads.proofs.Numbers.{room-there}
+use Rattle.word.proofs.Laws.{room-there}
 use Rattle.word.specs.Words.{u32At}
 use Rattle.frame.specs.declared.Frame.{Frame}
 use Rattle.value_bodies.proofs.Picks.{pick-none}

@@ -22,7 +22,7 @@ pub fn word_at(s: &[u8], f: Frame, item: usize, at: usize) -> Word
     ensures { λ r. ⌜ word-outcome r ≡ wordAt (now (s .entry)) f item at ⌝ }
 {
     let order = f.order;
-    if value_heads::has_room(s.len(), at, 4) {
+    if word::has_room(s.len(), at, 4) {
         return Word::Got(word::u32_at(s, at, order));
     }
     Word::Refused(Refusal {
@@ -93,7 +93,7 @@ pub fn offset_count(s: &[u8], f: Frame, item: usize, absent: bool, four: bool) -
     match word_at(s, f, item, item) {
         Word::Refused(r) => Word::Refused(r),
         Word::Got(count) => {
-            if value_heads::has_room(s.len(), item + 4, 4 * count as usize) {
+            if word::has_room(s.len(), item + 4, 4 * count as usize) {
                 match offsets_pass(s, f, item, absent, four, item + 4, count) {
                     Checked::Refused(r) => {
                         return Word::Refused(r);

@@ -13,9 +13,9 @@ use Rattle.report.specs.Stored.{written}
 use Rattle.report.proofs.Laws.{got-within}
 use Rattle.refusal.specs.Outcome.{Outcome}
 use Rattle.header.specs.declared.Header.{Header}
-use Rattle.header.specs.declared.HeaderAnswer.{HeaderAnswer}
-use Rattle.header.specs.Answers.{header-outcome}
-use Rattle.file_report.specs.Verdict.{inputAt}
+use Rattle.verdict.specs.declared.Verdict.{Verdict}
+use Rattle.verdict.specs.Answers.{verdict-outcome}
+use Rattle.file_report.specs.Input.{inputAt}
 use Rattle.checking.specs.Status.{status, Comes, said, unsaid}
 
 -- of the output as it is afterwards
@@ -25,7 +25,7 @@ within x text before after k e c l = rw l (got-within text (length before) k (sy
 pub prefix-long : (x : ReportAnswer) (text before after : List ℕ) (k : ℕ) → report-outcome x ≡ written text (length before) → x ≡ R.the-variants.Got k → length after ≡ length before → k ≡ length (take k after)
 prefix-long x text before after k e c l = sym (length-take-le k after (within x text before after k e c l))
 
-pub verdict-said : (f : List ℕ) (v : HeaderAnswer) (s : ℕ) → header-outcome v ≡ inputAt f → s ≡ status (header-outcome v) → Comes f s
+pub verdict-said : (f : List ℕ) (v : Verdict) (s : ℕ) → verdict-outcome v ≡ inputAt f → s ≡ status (verdict-outcome v) → Comes f s
 verdict-said f v s e q = said (q ∙ ap (λ (o : Outcome Header). status o) e)
 
 pub nothing-said : (f : List ℕ) (s : ℕ) → 2 ≤ s → Comes f s

@@ -4,7 +4,7 @@ use mathlib.Core.Path.{_≡_}
 use mathlib.Core.List.{List}
 use Rattle.refusal.specs.Outcome.{Outcome, answer, refused}
 use Rattle.header.specs.declared.Header.{Header}
-use Rattle.file_report.specs.Verdict.{inputAt}
+use Rattle.file_report.specs.Input.{inputAt}
 
 -- an input that was read, by its verdict
 abbrev pub status : Outcome Header → ℕ

@@ -1,9 +1,9 @@
 // What the programs do: read an input whole, have it checked, write its report, and tell what it all came to. What is read and written no contract can say.
-use header::HeaderAnswer;
 use report::ReportAnswer;
+use verdict::Verdict;
 ghost use mathlib.Core.Path.{_≡_};
 ghost use Prim.Native.Nat.{_≤_, max};
-ghost use Rattle.header.specs.Answers.{header-outcome};
+ghost use Rattle.verdict.specs.Answers.{verdict-outcome};
 ghost use Rattle.checking.specs.Status.{status, digit, Comes};
 
 // One byte more than is taken, so that an input that is too long is known to be.
@@ -21,12 +21,12 @@ const UNREAD: u8 = 2;
 const UNWRITTEN: u8 = 3;
 
 // What an input comes to that was read.
-fn status_of(verdict: HeaderAnswer) -> u8
-    ensures { λ r. ⌜ r ≡ status (header-outcome verdict) ⌝ }
+fn status_of(verdict: Verdict) -> u8
+    ensures { λ r. ⌜ r ≡ status (verdict-outcome verdict) ⌝ }
 {
     match verdict {
-        HeaderAnswer::Got(_) => 0,
-        HeaderAnswer::Refused(_) => 1,
+        Verdict::Accepted(_) => 0,
+        Verdict::Refused(_) => 1,
     }
 }
 

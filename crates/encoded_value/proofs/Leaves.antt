@@ -18,7 +18,7 @@ use Rattle.value_heads.specs.declared.Number.the-variants as N
 use Rattle.value_heads.specs.Kinds.{bytes-of, is-index, in-range}
 use Rattle.value_heads.specs.Readings.{numberAt, checkedAt, indexAt}
 use Rattle.value_heads.specs.Answers.{number-outcome}
-use Rattle.value_heads.proofs.Numbers.{room-fits}
+use Rattle.word.proofs.Laws.{room-fits}
 use Rattle.value_heads.proofs.Laws.{number-got, number-short, range-other}
 use Rattle.encoded_value.specs.declared.Step.{Step}
 use Rattle.encoded_value.specs.Readings.{plainAt}

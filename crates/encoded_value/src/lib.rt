@@ -23,7 +23,7 @@ fn bytes_past(s: &[u8], item: usize, at: usize, head: u8) -> Step
     ensures { λ r. ⌜ step-outcome r ≡ pastNumber (now (s .entry)) item at (bytes-of head) ⌝ }
 {
     let n = value_heads::size_of(head);
-    if value_heads::has_room(s.len(), at, n) {
+    if word::has_room(s.len(), at, n) {
         return Step::Next(at + n);
     }
     Step::Refused(Refusal {

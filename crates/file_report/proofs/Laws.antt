@@ -6,21 +6,20 @@ use mathlib.Core.List.{List}
 use borrow.Author.Needs.{needs}
 use Rattle.refusal.specs.Outcome.{Outcome}
 use Rattle.refusal.proofs.Laws.{tests, calls}
-use Rattle.refusal.proofs.Kept.{on-checked}
 use Rattle.header.specs.declared.Header.{Header}
-use Rattle.header.specs.declared.HeaderAnswer.{HeaderAnswer}
-use Rattle.header.specs.Answers.{header-outcome}
+use Rattle.verdict.specs.declared.Verdict.{Verdict}
+use Rattle.verdict.specs.Answers.{verdict-outcome}
 use Rattle.report.specs.Lines.{reportOf}
 use Rattle.report.specs.Stored.{written, content}
 
-pub ruleset laws = (on-checked, tests, calls, needs)
+pub ruleset laws = (tests, calls, needs)
 
 -- the report of a verdict v is that of the reading that v says
-module _ {o : Outcome Header} (v : HeaderAnswer) (e : header-outcome v ≡ o) where
-  pub reported : {said : Outcome ℕ} (k : ℕ) → said ≡ written (reportOf (header-outcome v)) k → said ≡ written (reportOf o) k
+module _ {o : Outcome Header} (v : Verdict) (e : verdict-outcome v ≡ o) where
+  pub reported : {said : Outcome ℕ} (k : ℕ) → said ≡ written (reportOf (verdict-outcome v)) k → said ≡ written (reportOf o) k
   reported k a = a ∙ ap (λ (x : Outcome Header). written (reportOf x) k) e
 
-  pub left : {after : List ℕ} (out : List ℕ) → after ≡ content (reportOf (header-outcome v)) out → after ≡ content (reportOf o) out
+  pub left : {after : List ℕ} (out : List ℕ) → after ≡ content (reportOf (verdict-outcome v)) out → after ≡ content (reportOf o) out
   left out a = a ∙ ap (λ (x : Outcome Header). content (reportOf x) out) e
 
 pub ruleset report-laws = (reported, left, needs)

@@ -1,37 +1,27 @@
 // A file checked, and the report of what the check answers.
-use header::HeaderAnswer;
-use refusal::Checked;
 use refusal::Refusal;
 use report::ReportAnswer;
+use verdict::Verdict;
 ghost use mathlib.Core.Path.{_≡_};
 ghost use lib.ListN.{length};
-ghost use Rattle.header.specs.Answers.{header-outcome};
+ghost use Rattle.verdict.specs.Answers.{verdict-outcome};
 ghost use Rattle.report.specs.Lines.{reportOf};
 ghost use Rattle.report.specs.Stored.{written, content};
 ghost use Rattle.report.specs.Answers.{report-outcome};
-ghost use Rattle.file_report.specs.Verdict.{verdictAt, inputAt};
+ghost use Rattle.whole_check.specs.File.{verdictAt};
+ghost use Rattle.file_report.specs.Input.{inputAt};
 
-// The header of a file that obeys every rule, or the refusal.
-pub fn verdict(f: &[u8]) -> HeaderAnswer
-    ensures { λ r. ⌜ header-outcome r ≡ verdictAt (now (f .entry)) ⌝ }
-{
-    match whole_check::check(f) {
-        Checked::Refused(r) => HeaderAnswer::Refused(r),
-        Checked::Accepted => header::header_of(f),
-    }
-}
-
-// The same of a program's input, which has at most 65,536 bytes.
-pub fn input_verdict(f: &[u8]) -> HeaderAnswer
-    ensures { λ r. ⌜ header-outcome r ≡ inputAt (now (f .entry)) ⌝ }
+// What a program's input comes to, which has at most 65,536 bytes.
+pub fn input_verdict(f: &[u8]) -> Verdict
+    ensures { λ r. ⌜ verdict-outcome r ≡ inputAt (now (f .entry)) ⌝ }
 {
     if 65536 < f.len() {
-        return HeaderAnswer::Refused(Refusal {
+        return Verdict::Refused(Refusal {
             number: 20,
             place: 0,
         });
     }
-    verdict(f)
+    whole_check::verdict(f)
 }
 
 // The report of a file: how many bytes, or 19, writing nothing, where the output is shorter.
@@ -39,7 +29,7 @@ pub fn report_of(f: &[u8], out: &mut [u8]) -> ReportAnswer
     ensures answer { λ r. ⌜ report-outcome r ≡ written (reportOf (verdictAt (now (f .entry)))) (length (now (out .entry))) ⌝ }
     ensures wrote { λ r. ⌜ now (out .exit) ≡ content (reportOf (verdictAt (now (f .entry)))) (now (out .entry)) ⌝ }
 {
-    report::verdict_into(verdict(f), out)
+    report::verdict_into(whole_check::verdict(f), out)
 }
 
 // The report of a program's input.

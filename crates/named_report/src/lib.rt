@@ -1,11 +1,11 @@
 // What goes out for an input: the line of its name, where it has one, and its report, into a lent output. So it can be written in one piece.
-use header::HeaderAnswer;
 use refusal::Refusal;
 use report::ReportAnswer;
+use verdict::Verdict;
 ghost use mathlib.Core.Path.{_≡_};
 ghost use Prim.Native.Nat.{_+_, _≤_};
 ghost use lib.ListN.{length};
-ghost use Rattle.header.specs.Answers.{header-outcome};
+ghost use Rattle.verdict.specs.Answers.{verdict-outcome};
 ghost use Rattle.report.specs.Stored.{Stored, written, content};
 ghost use Rattle.report.specs.Answers.{report-outcome};
 ghost use Rattle.named_report.specs.Output.{one-line, heading, outputOf};
@@ -57,9 +57,9 @@ fn put_heading(name: &[u8], out: &mut [u8]) -> usize
 }
 
 // All that goes out for an input: how many bytes, or 19, writing nothing, where the output is shorter.
-pub fn output_into(name: &[u8], verdict: HeaderAnswer, out: &mut [u8]) -> ReportAnswer
-    ensures answer { λ r. ⌜ report-outcome r ≡ written (outputOf (now (name .entry)) (header-outcome verdict)) (length (now (out .entry))) ⌝ }
-    ensures wrote { λ r. ⌜ now (out .exit) ≡ content (outputOf (now (name .entry)) (header-outcome verdict)) (now (out .entry)) ⌝ }
+pub fn output_into(name: &[u8], verdict: Verdict, out: &mut [u8]) -> ReportAnswer
+    ensures answer { λ r. ⌜ report-outcome r ≡ written (outputOf (now (name .entry)) (verdict-outcome verdict)) (length (now (out .entry))) ⌝ }
+    ensures wrote { λ r. ⌜ now (out .exit) ≡ content (outputOf (now (name .entry)) (verdict-outcome verdict)) (now (out .entry)) ⌝ }
 {
     let at = heading_size(name);
     if out.len() < at {

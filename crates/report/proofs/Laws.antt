@@ -19,9 +19,9 @@ use Rattle.word.specs.declared.Endian.{Endian}
 use Rattle.word.specs.declared.Endian.the-variants.{Little, Big}
 use Rattle.refusal.specs.declared.Refusal.{Refusal}
 use Rattle.header.specs.declared.Header.{Header}
-use Rattle.header.specs.declared.HeaderAnswer.{HeaderAnswer}
-use Rattle.header.specs.declared.HeaderAnswer as H
-use Rattle.header.specs.Answers.{header-outcome}
+use Rattle.verdict.specs.declared.Verdict.{Verdict}
+use Rattle.verdict.specs.declared.Verdict as D
+use Rattle.verdict.specs.Answers.{verdict-outcome}
 use Rattle.report.specs.Decimal.{decimal}
 use Rattle.report.specs.Lines.{Line, told, lines, counted, order-line, accepted-lines, refused-lines, reportOf}
 use Rattle.report.specs.Stored.{placed, Stored, written, content}
@@ -299,21 +299,21 @@ pub ruleset report-laws = (report-answer, report-content, needs)
 pub ruleset text-laws = (short-answer, short-content, whole-room, whole-answer, whole-content, needs)
 
 -- ---- a verdict's report
-module _ (v : HeaderAnswer) (said : Outcome ℕ) (k : ℕ) where
-  pub got-answer : (h : Header) → v ≡ H.the-variants.Got h → said ≡ written (lines (accepted-lines h)) k → said ≡ written (reportOf (header-outcome v)) k
+module _ (v : Verdict) (said : Outcome ℕ) (k : ℕ) where
+  pub got-answer : (h : Header) → v ≡ D.the-variants.Accepted h → said ≡ written (lines (accepted-lines h)) k → said ≡ written (reportOf (verdict-outcome v)) k
   unfolding reportOf
   got-answer h e a = rw e a
 
-  pub refused-answer : (r : Refusal) → v ≡ H.the-variants.Refused r → said ≡ written (lines (refused-lines r)) k → said ≡ written (reportOf (header-outcome v)) k
+  pub refused-answer : (r : Refusal) → v ≡ D.the-variants.Refused r → said ≡ written (lines (refused-lines r)) k → said ≡ written (reportOf (verdict-outcome v)) k
   unfolding reportOf
   refused-answer r e a = rw e a
 
-module _ (v : HeaderAnswer) (after out : List ℕ) where
-  pub got-content : (h : Header) → v ≡ H.the-variants.Got h → after ≡ content (lines (accepted-lines h)) out → after ≡ content (reportOf (header-outcome v)) out
+module _ (v : Verdict) (after out : List ℕ) where
+  pub got-content : (h : Header) → v ≡ D.the-variants.Accepted h → after ≡ content (lines (accepted-lines h)) out → after ≡ content (reportOf (verdict-outcome v)) out
   unfolding reportOf
   got-content h e a = rw e a
 
-  pub refused-content : (r : Refusal) → v ≡ H.the-variants.Refused r → after ≡ content (lines (refused-lines r)) out → after ≡ content (reportOf (header-outcome v)) out
+  pub refused-content : (r : Refusal) → v ≡ D.the-variants.Refused r → after ≡ content (lines (refused-lines r)) out → after ≡ content (reportOf (verdict-outcome v)) out
   unfolding reportOf
   refused-content r e a = rw e a
 

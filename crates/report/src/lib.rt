@@ -1,7 +1,7 @@
 // The report of a check: lines of a name and a value, byte for byte, into a lent output.
 use header::Header;
-use header::HeaderAnswer;
 use refusal::Refusal;
+use verdict::Verdict;
 use word::Endian;
 ghost use mathlib.Core.Path.{_≡_};
 ghost use mathlib.Core.List.{[], _∷_, _++_};
@@ -9,7 +9,7 @@ ghost use Prim.Native.Nat.{_+_, _<_, _≤_};
 ghost use lib.ListN.{length};
 ghost use Rattle.report.specs.Decimal.{decimal};
 ghost use Rattle.report.specs.Lines.{lines, counted, order-line, ascii, accepted-lines, refused-lines, reportOf};
-ghost use Rattle.header.specs.Answers.{header-outcome};
+ghost use Rattle.verdict.specs.Answers.{verdict-outcome};
 ghost use Rattle.report.specs.Stored.{Stored, written, content};
 ghost use Rattle.report.specs.Rows.{Named, ThreeNamed, Rows};
 ghost use Rattle.report.specs.Answers.{report-outcome};
@@ -214,12 +214,12 @@ pub fn refused_into(refusal: Refusal, out: &mut [u8]) -> ReportAnswer
 }
 
 // The report of a verdict: of the header of an accepted file, or of the refusal.
-pub fn verdict_into(verdict: HeaderAnswer, out: &mut [u8]) -> ReportAnswer
-    ensures answer { λ r. ⌜ report-outcome r ≡ written (reportOf (header-outcome verdict)) (length (now (out .entry))) ⌝ }
-    ensures wrote { λ r. ⌜ now (out .exit) ≡ content (reportOf (header-outcome verdict)) (now (out .entry)) ⌝ }
+pub fn verdict_into(verdict: Verdict, out: &mut [u8]) -> ReportAnswer
+    ensures answer { λ r. ⌜ report-outcome r ≡ written (reportOf (verdict-outcome verdict)) (length (now (out .entry))) ⌝ }
+    ensures wrote { λ r. ⌜ now (out .exit) ≡ content (reportOf (verdict-outcome verdict)) (now (out .entry)) ⌝ }
 {
     match verdict {
-        HeaderAnswer::Got(h) => accepted_into(h, out),
-        HeaderAnswer::Refused(r) => refused_into(r, out),
+        Verdict::Accepted(h) => accepted_into(h, out),
+        Verdict::Refused(r) => refused_into(r, out),
     }
 }

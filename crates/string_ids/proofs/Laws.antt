@@ -11,11 +11,12 @@ use native.Mathlib.Omega.{arith}
 use mir.Syntax.{w32}
 use mir.Val.{Fits}
 use Rattle.refusal.specs.declared.Refusal.{Refusal}
-use Rattle.refusal.specs.Outcome.{Outcome, answer, refused, _>>=_, given}
+use Rattle.refusal.specs.Outcome.{Outcome, answer, refused, _>>=_, given, accepted}
 use Rattle.refusal.specs.Rows.{Found, Turn, follows, turn, first-turn, in-turn}
 use Rattle.refusal.specs.Seek.{position, or-this}
 use Rattle.refusal.proofs.Laws.{said, tests, calls, passes, fails, bind-answer, bind-refused}
 use Rattle.refusal.proofs.Exact.{never}
+use Rattle.refusal.proofs.Kept.{part-answer, part-refused}
 use Rattle.refusal.proofs.Rows.{bind-assoc}
 use Rattle.refusal.proofs.Loops.{Collecting, collecting-first, Goes, collecting-next, collecting-stop, collecting-done}
 use Rattle.refusal.proofs.Seek.{position-more}
@@ -31,7 +32,7 @@ use Rattle.text.specs.declared.TextAnswer.{TextAnswer}
 use Rattle.text.specs.declared.TextAnswer.the-variants as T
 use Rattle.text.proofs.Laws.{Lies, text-lies}
 use Rattle.text_order.proofs.ByUnits.{lies-order}
-use Rattle.string_ids.specs.Strings.{placeOf, recordOf, recordAt, stringOf, stringExtent, before, lessBytes, stringsAt, is, lookedUp}
+use Rattle.string_ids.specs.Strings.{placeOf, recordOf, recordAt, stringOf, stringExtent, before, lessBytes, stringsAt, stringsChecked, is, lookedUp}
 use Rattle.string_ids.specs.Answers.{item-outcome, last-bytes, found-number, lookup-outcome}
 use Rattle.string_ids.specs.declared.ItemAnswer.{ItemAnswer}
 use Rattle.string_ids.specs.declared.Last.{Last}
@@ -209,6 +210,48 @@ looking-done w l =
     let d = collecting-done (w .collecting) l in
     sym (bind-answer _ (bind-answer _ (sym (d .1 .1 .1))) ∙ ap answer (sym (d .1 .1 .0 .found-is)))
 
+-- ---- the loop of `check_strings`, which keeps no number: it goes as a lookup does, of which what was found is not looked at
+pub record Checking (f : List ℕ) (h : Header) (s : List ℕ) (left k : ℕ) (last : Last) : Type 0 where
+  found : F.Found
+  looking : Looking f h [] s left k last found
+
+as-found : Option ℕ → F.Found
+as-found none = F.the-variants.Nothing
+as-found (some j) = F.the-variants.Number j
+
+found-as : (o : Option ℕ) → found-number (as-found o) ≡ o
+unfolding as-found
+found-as none = refl
+found-as (some j) = refl
+
+unchecked : (f : List ℕ) (h : Header) {r : Refusal} → refused r ≡ lookedUp f h [] → refused r ≡ stringsChecked f h
+unfolding lookedUp
+unchecked f h e = sym (bind-refused accepted (part-refused (position (is [])) (stringsAt f h) (sym e)))
+
+pub checking-first : (f : List ℕ) (h : Header) {s : List ℕ} → s ≡ section f h → Fits w32 (h .strings .count) → Checking f h s (h .strings .count) 0 Start
+checking-first f h e fits = record { found = F.the-variants.Nothing; looking = looking-first f h [] e fits }
+
+pub checking-fits : {f : List ℕ} {h : Header} {s : List ℕ} {left k : ℕ} {last : Last} → Checking f h s left k last → 0 < left → Fits w32 (k + 1)
+checking-fits w l = number-fits (w .looking) l
+
+module _ {f : List ℕ} {h : Header} {s : List ℕ} {left k : ℕ} {last : Last} (w : Checking f h s left k last) {x : TextAnswer} (l : 0 < left) (e : text-outcome x ≡ stringExtent f h k) where
+  pub checking-stop : {r : Refusal} → x ≡ T.Refused r → refused r ≡ stringsChecked f h
+  checking-stop t = unchecked f h (looking-stop (w .looking) l e t)
+
+  module _ {p m u : ℕ} (t : x ≡ T.Got p m u) {b : Bool} (asked : b ≡ follows lessBytes (last-bytes s last) (part s p m)) where
+    pub checking-fail : {place : ℕ} → b ≡ false → place ≡ placeOf h k → refused (record { number = 15; place = place }) ≡ stringsChecked f h
+    checking-fail false-is at = unchecked f h (looking-fail (w .looking) l e t asked false-is at)
+
+    pub checking-next : b ≡ true → Checking f h s (left - 1) (k + 1) (After p m)
+    checking-next true-is = record {
+      found = as-found (or-this (found-number (w .found)) (isEqual (byKey (part s p m) [])) k);
+      looking = looking-next (w .looking) l e t asked true-is refl (found-as _);
+    }
+
+pub checking-done : {f : List ℕ} {h : Header} {s : List ℕ} {left k : ℕ} {last : Last} → Checking f h s left k last → left ≤ 0 → answer tt ≡ stringsChecked f h
+unfolding lookedUp
+checking-done {f} {h} w l = sym (bind-answer accepted (part-answer (position (is [])) (stringsAt f h) (sym (looking-done (w .looking) l)) .1 .0))
+
 pub on-lookup : {B : Type 0} {x c : Lookup} {o : Outcome (Option ℕ)} {y : Outcome B} (k : Option ℕ → Outcome B) → lookup-outcome x ≡ o → x ≡ c → y ≡ (lookup-outcome c >>= k) → y ≡ (o >>= k)
 on-lookup = said lookup-outcome
 
@@ -217,5 +260,7 @@ pub ruleset record-laws = (record-by, record-fails, string-by, extent-of, on-ite
 pub ruleset order-laws = (rises-first, rises-after, found-before, found-now, found-not, needs)
 
 pub ruleset looking = (looking-first, looking-stop, looking-fail, looking-next, looking-done, needs)
+
+pub ruleset checking = (checking-first, checking-fits, checking-stop, checking-fail, checking-next, checking-done, needs)
 
 pub ruleset laws = (on-lookup)

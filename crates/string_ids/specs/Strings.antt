@@ -4,7 +4,7 @@ use mathlib.Core.Bool.{Bool, false}
 use mathlib.Core.Option.{Option}
 use mathlib.Core.List.{List}
 use lib.ListN.{length}
-use Rattle.refusal.specs.Outcome.{Outcome, answer, _>>=_, given}
+use Rattle.refusal.specs.Outcome.{Outcome, answer, _>>=_, given, accepted}
 use Rattle.refusal.specs.Rows.{in-turn}
 use Rattle.refusal.specs.Seek.{position}
 use Rattle.word.specs.Words.{u32At}
@@ -39,6 +39,10 @@ before a b = isLess (compared (a .units) (b .units))
 -- all strings, each by its own rules, then by its order: "15, at the record"
 unfoldable pub stringsAt : List ℕ → Header → Outcome (List Text)
 stringsAt f h = in-turn (stringOf f h) before 15 (placeOf h) (h .strings .count)
+
+-- a stage of the code: nothing of them is kept but that they obey their rules and rise
+abbrev pub stringsChecked : List ℕ → Header → Outcome Unit
+stringsChecked f h = stringsAt f h >>= accepted
 
 -- the same by the bytes of two texts: a stage of the code
 abbrev pub lessBytes : List ℕ → List ℕ → Bool

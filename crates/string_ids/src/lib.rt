@@ -1,12 +1,14 @@
 // The string table: its records, the texts that they name, and their order.
 use header::Header;
+use refusal::Checked;
 use refusal::Refusal;
 use text::TextAnswer;
 use text_order::Order;
 ghost use mathlib.Core.Path.{_≡_};
 ghost use Rattle.text.specs.Answers.{text-outcome};
-ghost use Rattle.string_ids.specs.Strings.{placeOf, recordAt, stringExtent, lessBytes, lookedUp};
+ghost use Rattle.string_ids.specs.Strings.{placeOf, recordAt, stringExtent, lessBytes, stringsChecked, lookedUp};
 ghost use Rattle.refusal.specs.Rows.{follows};
+ghost use Rattle.refusal.specs.Answers.{checked-outcome};
 ghost use Rattle.refusal.specs.Seek.{or-this};
 ghost use Rattle.word.specs.Bytes.{part};
 ghost use Rattle.text_order.specs.Order.{byKey, isEqual};
@@ -97,7 +99,42 @@ fn found_with(found: Found, bytes: &[u8], text: &[u8], k: u32) -> Found
     }
 }
 
-// All strings in turn, each by its own rules and then by its order, and the number of the one that is the text: one pass.
+// All strings in turn, each by its own rules and then by its order.
+pub fn check_strings(f: &[u8], h: Header) -> Checked
+    ensures { λ r. ⌜ checked-outcome r ≡ stringsChecked (now (f .entry)) h ⌝ }
+{
+    let s = header::section_of(f, h);
+    let strings = h.strings;
+    let mut last = Last::Start;
+    let mut k: u32 = 0;
+    let mut left = strings.count;
+    while 0 < left {
+        match string_at(f, h, k) {
+            TextAnswer::Refused(r) => {
+                return Checked::Refused(r);
+            }
+            TextAnswer::Got {
+                start,
+                length,
+                units: _,
+            } => {
+                if rises(s, last, start, length) {
+                    last = Last::After { start, length };
+                } else {
+                    return Checked::Refused(Refusal {
+                        number: 15,
+                        place: place_of(h, k),
+                    });
+                }
+            }
+        }
+        k += 1;
+        left -= 1;
+    }
+    Checked::Accepted
+}
+
+// The same going over, with the number of the string that is the text: one pass.
 pub fn look_up(f: &[u8], h: Header, text: &[u8]) -> Lookup
     ensures { λ r. ⌜ lookup-outcome r ≡ lookedUp (now (f .entry)) h (now (text .entry)) ⌝ }
 {

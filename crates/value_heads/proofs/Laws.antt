@@ -27,7 +27,8 @@ use Rattle.value_heads.specs.Numbers.{little}
 use Rattle.value_heads.specs.Readings.{headAt, numberAt}
 use Rattle.value_heads.specs.Rules.{Head}
 use Rattle.value_heads.specs.Answers.{head-outcome, number-outcome, Small}
-use Rattle.value_heads.proofs.Numbers.{size-some, size-none, size-small, room-none, room-left, room-there, room-fits}
+use Rattle.value_heads.proofs.Numbers.{size-some, size-none, size-small}
+use Rattle.word.proofs.Laws.{room-there, room-fits}
 use Rattle.value_heads.proofs.Exactly.{head-exact}
 
 -- ---- the table
@@ -87,7 +88,7 @@ pub on-number : {B : Type 0} {x c : Number} {o : Outcome (Found ℕ ℕ)} {y : O
 on-number = said number-outcome
 
 -- what the functions are searched with
-pub ruleset kind-laws = (size-some, size-none, index-high, index-low, range-index, range-other, room-none, room-left, needs)
+pub ruleset kind-laws = (size-some, size-none, index-high, index-low, range-index, range-other, needs)
 
 pub ruleset limit-laws = (eq-eqb, ne-eqb, needs)
 

@@ -1,15 +1,15 @@
 -- Laws of a value's bytes as numbers: their size, and the loop that joins them.
 -- Assumes nothing.
 use Prim.Native.Nat.{ℕ, suc, _+_, _-_, _*_, _^_, _%_, _/_, _<_, _≤_}
-use mathlib.Core.Path.{_≡_, refl, sym, _∙_}
+use mathlib.Core.Path.{_≡_}
 use mathlib.Core.Bool.{Bool, true, false, cond}
 use mathlib.Core.List.{List}
 use lib.ListN.{length, getD}
-use lib.Dec.{leb, ltb}
+use lib.Dec.{ltb}
 use lib.Pow.{pow-pos, pow-mono, pow-add}
 use native.Mathlib.Omega.{arith}
 use borrow.Author.Needs.{needs}
-use borrow.Author.Tests.{le-leb, lt-leb, leb-true, leb-false, lt-ltb, le-ltb}
+use borrow.Author.Tests.{lt-ltb, le-ltb}
 use mir.Syntax.{w8, w64}
 use mir.Val.{Fits}
 use Rattle.word.specs.Bytes.{stretch}
@@ -35,23 +35,6 @@ size-most h = go (ltb (h % 32) 0x1c)
 
 pub size-small : (h : ℕ) → h < 256 → bytes-of h ≤ 8
 size-small h p = let m = size-most h in omega arith
-
--- ---- do they fit
-pub room-none : (len at n : ℕ) → len < at → false ≡ leb (at + n) len
-room-none len at n h = sym (lt-leb (at + n) len (omega arith))
-
-pub room-left : (len at n : ℕ) → at ≤ len → leb n (len - at) ≡ leb (at + n) len
-room-left len at n h = go (leb n (len - at)) refl
-  where
-    go : (b : Bool) → leb n (len - at) ≡ b → b ≡ leb (at + n) len
-    go true e = let l = leb-true n (len - at) e in sym (le-leb (at + n) len (omega arith))
-    go false e = let l = leb-false n (len - at) e in sym (lt-leb (at + n) len (omega arith))
-
-pub room-there : (len at n : ℕ) {t : Bool} → t ≡ leb (at + n) len → t ≡ true → at + n ≤ len
-room-there len at n e m = leb-true (at + n) len (sym e ∙ m)
-
-pub room-fits : (len at n : ℕ) {t : Bool} → t ≡ leb (at + n) len → t ≡ true → Fits w64 len → Fits w64 (at + n)
-room-fits len at n e m f = let h = room-there len at n e m in omega arith
 
 -- ---- the loop of `joined` at its head: the bytes from `left` on are joined
 pub record Joining (s : List ℕ) (at n left sum : ℕ) : Type 0 where

@@ -6,7 +6,6 @@ use refusal::Refusal;
 ghost use mathlib.Core.Path.{_≡_};
 ghost use Prim.Native.Nat.{_+_, _*_, _^_, _≤_, _<_};
 ghost use lib.ListN.{length};
-ghost use lib.Dec.{leb};
 ghost use Rattle.word.specs.Bytes.{stretch};
 ghost use Rattle.value_heads.specs.Kinds.{allowed-head, bytes-of, is-index, walkOf, count-of, in-range};
 ghost use Rattle.value_heads.specs.Numbers.{little};
@@ -133,16 +132,6 @@ pub fn limit_of(w: Walk, code: u8) -> u32
     w.fields
 }
 
-// Do n bytes fit from a place on.
-pub fn has_room(len: usize, at: usize, n: usize) -> bool
-    ensures { λ r. ⌜ r ≡ leb (at + n) len ⌝ }
-{
-    if len < at {
-        return false;
-    }
-    n <= len - at
-}
-
 // A value's head byte: 9 where it is missing, 12 where it is not allowed.
 pub fn head_at(s: &[u8], item: usize, at: usize) -> HeadByte
     ensures { λ r. ⌜ head-outcome r ≡ headAt (now (s .entry)) item at ⌝ }
@@ -182,7 +171,7 @@ pub fn number_at(s: &[u8], item: usize, at: usize, head: u8) -> Number
     ensures { λ r. ⌜ (number-outcome r ≡ numberAt (now (s .entry)) item at (bytes-of head)) × Small head r ⌝ }
 {
     let n = size_of(head);
-    if has_room(s.len(), at, n) {
+    if word::has_room(s.len(), at, n) {
         return Number::Got {
             value: joined(s, at, n),
             next: at + n,

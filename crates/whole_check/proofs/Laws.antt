@@ -2,10 +2,8 @@
 -- Assumes nothing.
 use Prim.Native.Nat.{ℕ}
 use mathlib.Core.Path.{_≡_, refl, ap, sym, _∙_}
-use mathlib.Core.Option.{Option}
 use mathlib.Core.List.{List}
 use borrow.Author.Needs.{needs}
-use Rattle.refusal.specs.declared.Refusal.{Refusal}
 use Rattle.refusal.specs.Outcome.{Outcome, answer, refused, _>>=_, accepted}
 use Rattle.refusal.specs.Rows.{every}
 use Rattle.refusal.proofs.Laws.{calls}
@@ -20,30 +18,13 @@ use Rattle.map_list.specs.declared.MapList.{MapList}
 use Rattle.map_list.specs.Map.{Map, mapAt, keptAt}
 use Rattle.map_list.proofs.Laws.{laws as map-laws}
 use Rattle.ids.specs.Records.{typesAt}
-use Rattle.string_ids.specs.Strings.{stringsAt, lookedUp}
-use Rattle.string_ids.specs.declared.Found.{Found}
-use Rattle.string_ids.specs.declared.Lookup.{Lookup}
-use Rattle.string_ids.specs.declared.Lookup.the-variants as K
-use Rattle.string_ids.specs.Answers.{lookup-outcome}
+use Rattle.string_ids.specs.Strings.{stringsAt, stringsChecked}
+use Rattle.verdict.proofs.Once.{on-verdict}
 use Rattle.class_walk.specs.Classes as C
-use Rattle.whole_check.specs.File.{protoBelow, fieldAt, methodAt, handleIn, tablesAt, fileAt, checkAt}
-use Rattle.whole_check.specs.Passes.{typesPass, membersPass, handlesPass, stringsPass, protosPass, classesPass, namesPass, recordsPass, itemsPass, tablesPass, passIn}
+use Rattle.whole_check.specs.File.{protoBelow, fieldAt, methodAt, handleIn, tablesAt, fileAt, checkAt, verdictAt}
+use Rattle.whole_check.specs.Passes.{typesPass, membersPass, handlesPass, protosPass, classesPass, namesPass, recordsPass, itemsPass, tablesPass, passIn, verdictIn}
 
 module _ (f : List ℕ) (h : Header) where
-  -- the lookup of any text reads each string
-  read-all : (text : List ℕ) (o : Outcome (Option ℕ)) → o ≡ lookedUp f h text → (o >>= accepted) ≡ (stringsAt f h >>= accepted)
-  unfolding lookedUp
-  read-all text o e = ap (λ (p : Outcome (Option ℕ)). p >>= accepted) e ∙ made-kept _ (stringsAt f h)
-
-  module _ (text : List ℕ) {x : Lookup} (e : lookup-outcome x ≡ lookedUp f h text) where
-    pub strings-read : {n : Found} → x ≡ K.Got n → answer tt ≡ (stringsAt f h >>= accepted)
-    unfolding _>>=_
-    strings-read {n} t = read-all text (lookup-outcome (K.Got n)) (sym (ap lookup-outcome t) ∙ e)
-
-    pub strings-stop : {r : Refusal} → x ≡ K.Refused r → refused r ≡ (stringsAt f h >>= accepted)
-    unfolding _>>=_
-    strings-stop {r} t = read-all text (lookup-outcome (K.Refused r)) (sym (ap lookup-outcome t) ∙ e)
-
   -- a table that was read against the file's frame, r
   module _ {r : Frame} where
     pub types-framed : (offset count : ℕ) {y : Outcome Unit} → r ≡ frame-of h 0 → y ≡ typesPass f r offset count → y ≡ typesPass f (frame-of h 0) offset count
@@ -56,7 +37,7 @@ module _ (f : List ℕ) (h : Header) where
     handles-framed handles offset count g q = q ∙ ap (λ (x : Frame). handlesPass f x offset count) g
 
   -- the stages, told in the grouping of the code
-  grouped : (t : Table) → tablesPass f h t ≡ (stringsPass f h >>= λ (u : Unit).
+  grouped : (t : Table) → tablesPass f h t ≡ (stringsChecked f h >>= λ (u : Unit).
       typesPass f (frame-of h 0) (h .types .offset) (h .types .count) >>= λ (u : Unit).
       protosPass f h (h .protos .count) >>= λ (u : Unit).
       membersPass f (frame-of h 0) (h .types .count) (h .fields .offset) (h .fields .count) >>= λ (u : Unit).
@@ -82,10 +63,40 @@ module _ (f : List ℕ) (h : Header) where
   unfolding passIn keptAt
   pass-kept = kept-part (mapAt f h) _ (λ (m : Map). tablesAt f h m) (λ (l : MapList). tablesPass f h (l .handles)) (λ m t. tables-kept m)
 
-pub check-by : (f : List ℕ) {y : Outcome Unit} → y ≡ (headerAt f >>= λ (h : Header). passIn f h) → y ≡ checkAt f
+-- the check by the stages of the code, and the verdict by them
+check-is : (f : List ℕ) → (headerAt f >>= λ (h : Header). passIn f h) ≡ checkAt f
 unfolding checkAt fileAt
-check-by f e = e ∙ (λ i. headerAt f >>= λ (h : Header). sym (pass-kept f h) i) ∙ sym (bind-assoc (headerAt f) _ accepted)
+check-is f = (λ i. headerAt f >>= λ (h : Header). sym (pass-kept f h) i) ∙ sym (bind-assoc (headerAt f) _ accepted)
 
-pub ruleset laws = (types-framed, members-framed, handles-framed, check-by, header-laws, map-laws, kept, calls, needs)
+-- of a header that was read, the second reading says the same
+again : {A B : Type 0} (o : Outcome A) (k : A → Outcome B) → ((o >>= k) >>= λ (b : B). o) ≡ (o >>= λ (a : A). k a >>= λ (b : B). answer a)
+unfolding _>>=_
+again (answer a) k = refl
+again (refused r) k = refl
 
-pub ruleset string-laws = (strings-read, strings-stop, needs)
+pub verdict-by : (f : List ℕ) {y : Outcome Header} → y ≡ (headerAt f >>= λ (h : Header). verdictIn f h) → y ≡ verdictAt f
+unfolding verdictAt verdictIn
+verdict-by f e = e ∙ sym (ap (λ (o : Outcome Unit). o >>= λ (u : Unit). headerAt f) (sym (check-is f)) ∙ again (headerAt f) (passIn f))
+
+pub verdict-in-by : (f : List ℕ) (h : Header) {y : Outcome Header} → y ≡ (passIn f h >>= λ (u : Unit). answer h) → y ≡ verdictIn f h
+unfolding verdictIn
+verdict-in-by f h e = e
+
+-- where the check accepts there is a header: so that nothing but the header of a verdict is left out
+once-more : {A : Type 0} (o : Outcome A) (k : A → Outcome Unit) → (((o >>= k) >>= λ (u : Unit). o) >>= accepted) ≡ (o >>= k)
+unfolding _>>=_
+once-more (answer a) k = go (k a)
+  where
+    go : (c : Outcome Unit) → ((c >>= λ (u : Unit). answer a) >>= accepted) ≡ c
+    go (answer u) = refl
+    go (refused r) = refl
+once-more (refused r) k = refl
+
+checked-verdict : (f : List ℕ) → (verdictAt f >>= accepted) ≡ checkAt f
+unfolding verdictAt
+checked-verdict f = ap (λ (o : Outcome Unit). (o >>= λ (u : Unit). headerAt f) >>= accepted) (sym (check-is f)) ∙ once-more (headerAt f) (passIn f) ∙ check-is f
+
+pub check-by : (f : List ℕ) {y : Outcome Unit} → y ≡ (verdictAt f >>= accepted) → y ≡ checkAt f
+check-by f e = e ∙ checked-verdict f
+
+pub ruleset laws = (types-framed, members-framed, handles-framed, check-by, verdict-by, verdict-in-by, on-verdict, header-laws, map-laws, kept, calls, needs)

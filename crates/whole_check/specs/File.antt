@@ -71,3 +71,9 @@ fileAt f = do
 -- the check keeps only that there is an answer: "The first broken rule is answered."
 unfoldable pub checkAt : List ℕ → Outcome Unit
 checkAt f = fileAt f >>= accepted
+
+-- what is said of a file: its header where it is accepted, otherwise the refusal
+unfoldable pub verdictAt : List ℕ → Outcome Header
+verdictAt f = do
+  u ← checkAt f
+  headerAt f

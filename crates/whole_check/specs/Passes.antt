@@ -12,7 +12,7 @@ use Rattle.header.specs.declared.Table.{Table}
 use Rattle.header.specs.Header.{frame-of}
 use Rattle.map_list.specs.Map.{keptAt}
 use Rattle.ids.specs.Records.{typesAt, memberAt, handleAt}
-use Rattle.string_ids.specs.Strings.{stringsAt}
+use Rattle.string_ids.specs.Strings.{stringsChecked}
 use Rattle.class_walk.specs.Classes as C
 use Rattle.whole_check.specs.File.{protoBelow}
 
@@ -36,9 +36,6 @@ abbrev pub handlesPass : List ℕ → Frame → ℕ → ℕ → Outcome Unit
 handlesPass f r offset count = every (handleAt f r offset) count >>= accepted
 
 module _ (f : List ℕ) (h : Header) where
-  abbrev pub stringsPass : Outcome Unit
-  stringsPass = stringsAt f h >>= accepted
-
   abbrev pub protoPass : ℕ → Outcome Unit
   protoPass n = protoBelow f h n >>= accepted
 
@@ -51,7 +48,7 @@ module _ (f : List ℕ) (h : Header) where
   -- strings, types, protos
   unfoldable pub namesPass : Outcome Unit
   namesPass = do
-    u ← stringsPass
+    u ← stringsChecked f h
     u ← typesPass f (frame-of h 0) (h .types .offset) (h .types .count)
     protosPass (h .protos .count)
 
@@ -75,3 +72,8 @@ module _ (f : List ℕ) (h : Header) where
 
   unfoldable pub passIn : Outcome Unit
   passIn = keptAt f h >>= λ m. tablesPass (m .handles)
+
+  unfoldable pub verdictIn : Outcome Header
+  verdictIn = do
+    u ← passIn
+    answer h

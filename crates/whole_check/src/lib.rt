@@ -4,22 +4,14 @@ use header::HeaderAnswer;
 use header::Table;
 use map_list::MapAnswer;
 use refusal::Checked;
+use verdict::Verdict;
 ghost use mathlib.Core.Path.{_≡_};
 ghost use Rattle.refusal.specs.Answers.{checked-outcome};
-ghost use Rattle.whole_check.specs.File.{checkAt};
-ghost use Rattle.whole_check.specs.Passes.{stringsPass, namesPass, recordsPass, itemsPass, tablesPass, passIn};
+ghost use Rattle.verdict.specs.Answers.{verdict-outcome};
+ghost use Rattle.whole_check.specs.File.{checkAt, verdictAt};
+ghost use Rattle.whole_check.specs.Passes.{namesPass, recordsPass, itemsPass, tablesPass, passIn, verdictIn};
 
 mod tables;
-
-// All strings, with their order: the lookup of no text reads each of them.
-fn strings_pass(f: &[u8], h: Header) -> Checked
-    ensures { λ r. ⌜ checked-outcome r ≡ stringsPass (now (f .entry)) h ⌝ }
-{
-    match string_ids::look_up(f, h, &f[0..0]) {
-        string_ids::Lookup::Refused(r) => Checked::Refused(r),
-        string_ids::Lookup::Got(_) => Checked::Accepted,
-    }
-}
 
 // Strings, types, and protos with their parameters.
 fn names_pass(f: &[u8], h: Header) -> Checked
@@ -27,7 +19,7 @@ fn names_pass(f: &[u8], h: Header) -> Checked
 {
     let types = h.types;
     let protos = h.protos;
-    match strings_pass(f, h) {
+    match string_ids::check_strings(f, h) {
         Checked::Refused(r) => Checked::Refused(r),
         Checked::Accepted => {
             match tables::types_pass(f, header::frame_of(h, 0), types.offset, types.count) {
@@ -90,12 +82,32 @@ fn check_in(f: &[u8], h: Header) -> Checked
     }
 }
 
+// A file with a good header: what the rest comes to.
+fn verdict_in(f: &[u8], h: Header) -> Verdict
+    ensures { λ r. ⌜ verdict-outcome r ≡ verdictIn (now (f .entry)) h ⌝ }
+{
+    match check_in(f, h) {
+        Checked::Refused(r) => Verdict::Refused(r),
+        Checked::Accepted => Verdict::Accepted(h),
+    }
+}
+
+// The header of an accepted file, which is read once, or the first broken rule in document 01's order.
+pub fn verdict(f: &[u8]) -> Verdict
+    ensures { λ r. ⌜ verdict-outcome r ≡ verdictAt (now (f .entry)) ⌝ }
+{
+    match header::header_of(f) {
+        HeaderAnswer::Refused(r) => Verdict::Refused(r),
+        HeaderAnswer::Got(h) => verdict_in(f, h),
+    }
+}
+
 // Accepted, or the first broken rule in document 01's order.
 pub fn check(f: &[u8]) -> Checked
     ensures { λ r. ⌜ checked-outcome r ≡ checkAt (now (f .entry)) ⌝ }
 {
-    match header::header_of(f) {
-        HeaderAnswer::Refused(r) => Checked::Refused(r),
-        HeaderAnswer::Got(h) => check_in(f, h),
+    match verdict(f) {
+        Verdict::Refused(r) => Checked::Refused(r),
+        Verdict::Accepted(_) => Checked::Accepted,
     }
 }

@@ -2,11 +2,13 @@
 -- Assumes nothing.
 use Prim.Native.Nat.{ℕ, zero, suc, _+_, _-_, _*_, _<_, _≤_, _^_}
 use mathlib.Core.Path.{_≡_, refl, ap, sym, _∙_}
+use mathlib.Core.Bool.{Bool, true, false}
 use mathlib.Core.List.{List, [], _∷_}
 use lib.ListN.{length, getD, take, drop, List·getD-eq-default}
 use lib.Seq.{drop-cons}
 use borrow.Author.Needs.{needs}
-use borrow.Author.Tests.{le-leb, lt-leb}
+use lib.Dec.{leb}
+use borrow.Author.Tests.{le-leb, lt-leb, leb-true, leb-false}
 use native.Mathlib.Numerals.{add-one}
 use native.Mathlib.Omega.{arith}
 use mir.Syntax.{w8, w64}
@@ -55,6 +57,23 @@ part-there s p n h q =
 -- what stands at a place is the part that lies there
 pub stands-part : {s : List ℕ} {p q : ℕ} {l : List ℕ} → Stands s p l q → part s p (length l) ≡ l
 stands-part {s} {p} {q} {l} h = let e = h .ends in let i = h .inside in part-whole s p (length l) (omega arith) ∙ h .bytes-there
+
+-- ---- do bytes fit
+pub room-none : (len at n : ℕ) → len < at → false ≡ leb (at + n) len
+room-none len at n h = sym (lt-leb (at + n) len (omega arith))
+
+pub room-left : (len at n : ℕ) → at ≤ len → leb n (len - at) ≡ leb (at + n) len
+room-left len at n h = go (leb n (len - at)) refl
+  where
+    go : (b : Bool) → leb n (len - at) ≡ b → b ≡ leb (at + n) len
+    go true e = let l = leb-true n (len - at) e in sym (le-leb (at + n) len (omega arith))
+    go false e = let l = leb-false n (len - at) e in sym (lt-leb (at + n) len (omega arith))
+
+pub room-there : (len at n : ℕ) {t : Bool} → t ≡ leb (at + n) len → t ≡ true → at + n ≤ len
+room-there len at n e m = leb-true (at + n) len (sym e ∙ m)
+
+pub room-fits : (len at n : ℕ) {t : Bool} → t ≡ leb (at + n) len → t ≡ true → Fits w64 len → Fits w64 (at + n)
+room-fits len at n e m f = let h = room-there len at n e m in omega arith
 
 -- ---- words
 -- the two orders are each other's reverse
@@ -133,4 +152,4 @@ unfolding u32At u32Of
 u32-past Little s at h = omega (arith, byte-past s at h, byte-past s (at + 1) (omega arith), byte-past s (at + 2) (omega arith), byte-past s (at + 3) (omega arith))
 u32-past Big s at h = omega (arith, byte-past s at h, byte-past s (at + 1) (omega arith), byte-past s (at + 2) (omega arith), byte-past s (at + 3) (omega arith))
 
-pub ruleset laws = (byte-past, part-none, part-short, part-there, u16-summed, u16-big, u32-summed, u32-big, u16-by, u32-by, u16-inside, u32-inside, u16-past, u32-past, needs)
+pub ruleset laws = (byte-past, room-none, room-left, part-none, part-short, part-there, u16-summed, u16-big, u32-summed, u32-big, u16-by, u32-by, u16-inside, u32-inside, u16-past, u32-past, needs)

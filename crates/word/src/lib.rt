@@ -2,6 +2,7 @@
 ghost use mathlib.Core.Path.{_≡_};
 ghost use Prim.Native.Nat.{_+_, _*_};
 ghost use lib.ListN.{getD};
+ghost use lib.Dec.{leb};
 ghost use Rattle.word.specs.Bytes.{part};
 ghost use Rattle.word.specs.Words.{u16Of, u32Of, u16At, u32At};
 
@@ -19,6 +20,16 @@ pub fn byte_at(s: &[u8], at: usize) -> u8
         return s[at];
     }
     0
+}
+
+// Do n bytes fit from a place on.
+pub fn has_room(len: usize, at: usize, n: usize) -> bool
+    ensures { λ r. ⌜ r ≡ leb (at + n) len ⌝ }
+{
+    if len < at {
+        return false;
+    }
+    n <= len - at
 }
 
 // The bytes that lie at a place, none where the slice ends before them.

@@ -4,7 +4,7 @@ use Rattle.annotation_directories.proofs.list_past.Tie as tie
 use Rattle.annotation_directories.proofs.list_past.Reads as reads
 use Rattle.annotation_directories.proofs.list_past.Lts as lts
 use Rattle.annotation_directories.proofs.entries_pass.Reads as entries-pass-reads
-use Rattle.value_heads.proofs.has_room.Reads as has-room-reads
+use Rattle.word.proofs.has_room.Reads as has-room-reads
 
 mul-size : tie.Need-mul-size
 mul-size c = search laws

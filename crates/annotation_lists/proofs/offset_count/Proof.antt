@@ -5,7 +5,7 @@ use Rattle.annotation_lists.proofs.offset_count.Reads as reads
 use Rattle.annotation_lists.proofs.offset_count.Lts as lts
 use Rattle.annotation_lists.proofs.offsets_pass.Reads as offsets-pass-reads
 use Rattle.annotation_lists.proofs.word_at.Reads as word-at-reads
-use Rattle.value_heads.proofs.has_room.Reads as has-room-reads
+use Rattle.word.proofs.has_room.Reads as has-room-reads
 
 word-at-requires : tie.Need-word-at-requires
 word-at-requires c κs = search laws

@@ -4,7 +4,7 @@ use Rattle.annotation_lists.proofs.word_at.Statement.{statement}
 use Rattle.annotation_lists.proofs.word_at.Tie as tie
 use Rattle.annotation_lists.proofs.word_at.Reads as reads
 use Rattle.annotation_lists.proofs.word_at.Lts as lts
-use Rattle.value_heads.proofs.has_room.Reads as has-room-reads
+use Rattle.word.proofs.has_room.Reads as has-room-reads
 use Rattle.word.proofs.u32_at.Reads as u32-at-reads
 
 has-room-requires : tie.Need-has-room-requires

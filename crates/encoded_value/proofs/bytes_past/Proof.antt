@@ -3,7 +3,7 @@ use Rattle.encoded_value.proofs.bytes_past.Statement.{statement}
 use Rattle.encoded_value.proofs.bytes_past.Tie as tie
 use Rattle.encoded_value.proofs.bytes_past.Reads as reads
 use Rattle.encoded_value.proofs.bytes_past.Lts as lts
-use Rattle.value_heads.proofs.has_room.Reads as has-room-reads
+use Rattle.word.proofs.has_room.Reads as has-room-reads
 use Rattle.value_heads.proofs.size_of.Reads as size-of-reads
 
 size-of-requires : tie.Need-size-of-requires

@@ -1,10 +1,10 @@
 use Rattle.file_report.proofs.Laws.{laws}
-use Rattle.file_report.specs.Verdict.{inputAt}
+use Rattle.file_report.specs.Input.{inputAt}
 use Rattle.file_report.proofs.input_verdict.Statement.{statement}
 use Rattle.file_report.proofs.input_verdict.Tie as tie
 use Rattle.file_report.proofs.input_verdict.Reads as reads
 use Rattle.file_report.proofs.input_verdict.Lts as lts
-use Rattle.file_report.proofs.verdict.Reads as verdict-reads
+use Rattle.whole_check.proofs.verdict.Reads as verdict-reads
 
 returns : tie.Need-returns
 unfolding inputAt

@@ -3,7 +3,7 @@ use Rattle.file_report.proofs.report_of.Statement.{statement}
 use Rattle.file_report.proofs.report_of.Tie as tie
 use Rattle.file_report.proofs.report_of.Reads as reads
 use Rattle.file_report.proofs.report_of.Lts as lts
-use Rattle.file_report.proofs.verdict.Reads as verdict-reads
+use Rattle.whole_check.proofs.verdict.Reads as verdict-reads
 use Rattle.report.proofs.verdict_into.Reads as verdict-into-reads
 
 verdict-requires : tie.Need-verdict-requires

@@ -5,12 +5,12 @@ use Rattle.whole_check.proofs.names_pass.Tie as tie
 use Rattle.whole_check.proofs.names_pass.Reads as reads
 use Rattle.whole_check.proofs.names_pass.Lts as lts
 use Rattle.header.proofs.frame_of.Reads as frame-of-reads
-use Rattle.whole_check.proofs.strings_pass.Reads as strings-pass-reads
+use Rattle.string_ids.proofs.check_strings.Reads as check-strings-reads
 use Rattle.whole_check.proofs.tables.protos_pass.Reads as protos-pass-reads
 use Rattle.whole_check.proofs.tables.types_pass.Reads as types-pass-reads
 
-strings-pass-requires : tie.Need-strings-pass-requires
-strings-pass-requires c κs = search laws depth 8
+check-strings-requires : tie.Need-check-strings-requires
+check-strings-requires c κs = search laws depth 8
 
 enum-known-r : tie.Need-enum-known-r
 enum-known-r c = search laws depth 8
@@ -49,7 +49,7 @@ pub names-pass-spec : {M : Type 1} → statement M
 names-pass-spec =
     tie.close
     (tie.spec
-    strings-pass-requires
+    check-strings-requires
     enum-known-r
     enum-told
     frame-of-requires

@@ -11,8 +11,7 @@ use Rattle.refusal.proofs.Kept.{accepted-answer}
 use Rattle.header.specs.declared.Header.{Header}
 use Rattle.header.specs.Header.{headerAt}
 use Rattle.map_list.specs.Map.{mapAt}
-use Rattle.whole_check.specs.File.{tablesAt, fileAt, checkAt}
-use Rattle.file_report.specs.Verdict.{verdictAt}
+use Rattle.whole_check.specs.File.{tablesAt, fileAt, checkAt, verdictAt}
 
 -- what goes on with an answer had one
 had : {A B : Type 0} (o : Outcome A) (k : A → Outcome B) {b : B} → (o >>= k) ≡ answer b → (a : A) × (o ≡ answer a)

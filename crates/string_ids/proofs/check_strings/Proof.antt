@@ -1,0 +1,79 @@
+use Rattle.string_ids.proofs.Laws.{Checking}
+use Rattle.string_ids.proofs.Laws.{checking as laws}
+use Rattle.string_ids.proofs.check_strings.Statement.{statement}
+use Rattle.string_ids.proofs.check_strings.Tie as tie
+use Rattle.string_ids.proofs.check_strings.Reads as reads
+use Rattle.string_ids.proofs.check_strings.Lts as lts
+use Rattle.header.proofs.section_of.Reads as section-of-reads
+use Rattle.string_ids.proofs.place_of.Reads as place-of-reads
+use Rattle.string_ids.proofs.rises.Reads as rises-reads
+use Rattle.string_ids.proofs.string_at.Reads as string-at-reads
+
+abbrev Inv-loop : tie.InvT-loop
+Inv-loop f h s last₀ k₀ left₀ last k left = Checking f h s left k last
+
+abbrev μ-loop : tie.MeasureT-loop
+μ-loop f h s last₀ k₀ left₀ last k left = left
+
+section-of-requires : tie.Need-section-of-requires Inv-loop μ-loop
+section-of-requires c κs = search laws
+
+loop-holds : tie.Need-loop-holds Inv-loop μ-loop
+loop-holds c = search laws
+
+string-at-requires : tie.Need-string-at-requires Inv-loop μ-loop
+string-at-requires c κs = search laws
+
+enum-known-r : tie.Need-enum-known-r Inv-loop μ-loop
+enum-known-r c = search laws
+
+returns : tie.Need-returns Inv-loop μ-loop
+returns c = search laws
+
+enum-known-start : tie.Need-enum-known-start Inv-loop μ-loop
+enum-known-start c = search laws
+
+rises-requires : tie.Need-rises-requires Inv-loop μ-loop
+rises-requires c κs = search laws
+
+place-of-requires : tie.Need-place-of-requires Inv-loop μ-loop
+place-of-requires c κs = search laws
+
+returns-2 : tie.Need-returns-2 Inv-loop μ-loop
+returns-2 c = search laws
+
+add-k : tie.Need-add-k Inv-loop μ-loop
+add-k c = search laws
+
+sub-left : tie.Need-sub-left Inv-loop μ-loop
+sub-left c = search laws
+
+loop-less : tie.Need-loop-less Inv-loop μ-loop
+loop-less c = search laws
+
+loop-again : tie.Need-loop-again Inv-loop μ-loop
+loop-again c = search laws
+
+returns-3 : tie.Need-returns-3 Inv-loop μ-loop
+returns-3 c = search laws
+
+pub check-strings-spec : {M : Type 1} → statement M
+check-strings-spec =
+    tie.close
+    (tie.spec
+    Inv-loop
+    μ-loop
+    section-of-requires
+    loop-holds
+    string-at-requires
+    enum-known-r
+    returns
+    enum-known-start
+    rises-requires
+    place-of-requires
+    returns-2
+    add-k
+    sub-left
+    loop-less
+    loop-again
+    returns-3)
