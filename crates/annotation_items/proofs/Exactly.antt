@@ -8,7 +8,7 @@ use Rattle.refusal.specs.Exact.{Exact}
 use Rattle.refusal.proofs.Exact.{same, answer-exact, given-exact, bind-exact, exact-iff, below, at-most}
 use Rattle.frame.specs.declared.Frame.{Frame}
 use Rattle.value_heads.specs.Kinds.{walkOf}
-use Rattle.encoded_value.proofs.Exactly.{annotation-exact}
+use Rattle.encoded_value.proofs.Exactly.{annotation-rule-exact}
 use Rattle.annotation_items.specs.Items.{Item, visibilityAt, itemAt}
 use Rattle.annotation_items.specs.Rules.{ItemRule}
 
@@ -20,7 +20,7 @@ module _ (s : List ℕ) (f : Frame) (item : ℕ) where
   pub item-exact : Exact (itemAt s f item) (ItemRule s f item)
   unfolding itemAt
   item-exact =
-      exact-iff (bind-exact _ _ (visibility-exact s item) (λ v. bind-exact _ _ (annotation-exact s (walkOf f item) 64 (item + 1)) (λ a. answer-exact (record { place = item; visibility = v; annotation = a .item }))))
+      exact-iff (bind-exact _ _ (visibility-exact s item) (λ v. bind-exact _ _ (annotation-rule-exact s (walkOf f item) (item + 1)) (λ a. answer-exact (record { place = item; visibility = v; annotation = a .item }))))
       (λ a p. subst (ItemRule s f item) (p .1 .1 .1 .1)
       (record {
         place = refl;

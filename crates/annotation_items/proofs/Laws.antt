@@ -16,6 +16,7 @@ use Rattle.value_heads.specs.declared.Walk.{Walk}
 use Rattle.encoded_value.specs.declared.Step.{Step}
 use Rattle.value_heads.specs.Kinds.{walkOf}
 use Rattle.encoded_value.specs.Tree.{Named, Annotation}
+use Rattle.encoded_value.specs.Depth.{deepest}
 use Rattle.encoded_value.specs.Readings.{annotationAt, pastAnnotation}
 use Rattle.encoded_value.specs.Answers.{step-outcome}
 use Rattle.decoded_value.specs.Shown.{shown}
@@ -37,8 +38,8 @@ body-fits s item {v = v} e t h = let z = visibility-exact s item .sound v (sym e
 
 -- a call over the walk w, which is the item's walk v
 module _ (s : List ℕ) (p : ℕ) {v w : Walk} where
-  pub on-body : {B : Type 0} {x c : Step} {y : Outcome B} (k : ℕ → Outcome B) → w ≡ v → step-outcome x ≡ pastAnnotation s w 64 p → x ≡ c → y ≡ (step-outcome c >>= k) → y ≡ (pastAnnotation s v 64 p >>= k)
-  on-body k a e t h = said step-outcome k (e ∙ ap (λ (u : Walk). pastAnnotation s u 64 p) a) t h
+  pub on-body : {B : Type 0} {x c : Step} {y : Outcome B} (k : ℕ → Outcome B) → w ≡ v → step-outcome x ≡ pastAnnotation s w deepest p → x ≡ c → y ≡ (step-outcome c >>= k) → y ≡ (pastAnnotation s v deepest p >>= k)
+  on-body k a e t h = said step-outcome k (e ∙ ap (λ (u : Walk). pastAnnotation s u deepest p) a) t h
 
   pub on-noted : {B : Type 0} {x c : Head} {y : Outcome B} (k : Noted → Outcome B) → w ≡ v → head-outcome x ≡ annotationNoted s w p → x ≡ c → y ≡ (head-outcome c >>= k) → y ≡ (annotationNoted s v p >>= k)
   on-noted k a e t h = said head-outcome k (e ∙ ap (λ (u : Walk). annotationNoted s u p) a) t h
@@ -59,18 +60,18 @@ module _ (s : List ℕ) (f : Frame) (item : ℕ) where
   keeps (answer v) (refused r) k look l h = refl
   keeps (refused r) p k look l h = refl
 
-  pub visibility-by : {y : Outcome ℕ} → y ≡ (visibilityAt s item >>= λ (v : ℕ). pastAnnotation s (walkOf f item) 64 (item + 1) >>= λ (q : ℕ). answer v) → y ≡ itemVisibility s f item
+  pub visibility-by : {y : Outcome ℕ} → y ≡ (visibilityAt s item >>= λ (v : ℕ). pastAnnotation s (walkOf f item) deepest (item + 1) >>= λ (q : ℕ). answer v) → y ≡ itemVisibility s f item
   unfolding itemVisibility itemAt _>>=_
-  visibility-by e = e ∙ sym (keeps (visibilityAt s item) (annotationAt s (walkOf f item) 64 (item + 1)) _ past (λ v q. answer v) (λ v a. refl))
+  visibility-by e = e ∙ sym (keeps (visibilityAt s item) (annotationAt s (walkOf f item) deepest (item + 1)) _ past (λ v q. answer v) (λ v a. refl))
 
   pub summary-by : {y : Outcome Summary}
       → y ≡ (visibilityAt s item >>= λ (v : ℕ). annotationNoted s (walkOf f item) (item + 1) >>= λ (n : Noted). answer (record { visibility = v; type-index = n .type-index; count = n .count })) → y ≡ itemSummary s f item
   unfolding itemSummary itemAt annotationNoted _>>=_
-  summary-by e = e ∙ sym (keeps (visibilityAt s item) (annotationAt s (walkOf f item) 64 (item + 1)) _ (λ a. answer (record { type-index = a .item .type-index; count = length (a .item .elements) })) _ (λ v a. refl))
+  summary-by e = e ∙ sym (keeps (visibilityAt s item) (annotationAt s (walkOf f item) deepest (item + 1)) _ (λ a. answer (record { type-index = a .item .type-index; count = length (a .item .elements) })) _ (λ v a. refl))
 
   pub element-by : (k : ℕ) {y : Outcome ShownElement} → y ≡ (visibilityAt s item >>= λ (v : ℕ). annotationElement s (walkOf f item) (item + 1) k) → y ≡ itemElement s f item k
   unfolding itemElement itemAt annotationElement _>>=_
-  element-by k e = e ∙ sym (go (visibilityAt s item) (annotationAt s (walkOf f item) 64 (item + 1)))
+  element-by k e = e ∙ sym (go (visibilityAt s item) (annotationAt s (walkOf f item) deepest (item + 1)))
     where
       out : Named → Outcome ShownElement
       out e = answer (record { name = e .name; value = shown (e .value) })

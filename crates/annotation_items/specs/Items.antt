@@ -7,6 +7,7 @@ use Rattle.refusal.specs.Outcome.{Outcome, answer, _>>=_, given}
 use Rattle.frame.specs.declared.Frame.{Frame}
 use Rattle.value_heads.specs.Kinds.{walkOf}
 use Rattle.encoded_value.specs.Tree.{Annotation}
+use Rattle.encoded_value.specs.Depth.{deepest}
 use Rattle.encoded_value.specs.Readings.{annotationAt}
 use Rattle.decoded_value.specs.Shown.{shown}
 use Rattle.value_bodies.specs.Bodies.{ShownElement, pick}
@@ -31,7 +32,7 @@ module _ (s : List ℕ) (f : Frame) (item : ℕ) where
   unfoldable pub itemAt : Outcome Item
   itemAt = do
     v ← visibilityAt s item
-    a ← annotationAt s (walkOf f item) 64 (item + 1)
+    a ← annotationAt s (walkOf f item) deepest (item + 1)
     answer (record { place = item; visibility = v; annotation = a .item })
 
   -- what code keeps

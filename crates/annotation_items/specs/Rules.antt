@@ -5,7 +5,7 @@ use mathlib.Core.List.{List}
 use lib.ListN.{length, getD}
 use Rattle.frame.specs.declared.Frame.{Frame}
 use Rattle.value_heads.specs.Kinds.{walkOf}
-use Rattle.encoded_value.specs.Rules.{AnnotationBody}
+use Rattle.encoded_value.specs.Rules.{AnnotationRule}
 use Rattle.annotation_items.specs.Items.{Item}
 
 pub record ItemRule (s : List ℕ) (f : Frame) (item : ℕ) (a : Item) : Type 0 where
@@ -14,4 +14,4 @@ pub record ItemRule (s : List ℕ) (f : Frame) (item : ℕ) (a : Item) : Type 0 
   pub visibility : getD s item 0 ≡ a .visibility
   pub visible : a .visibility ≤ 2
   pub ends : ℕ
-  pub body : AnnotationBody s (walkOf f item) 64 (item + 1) (a .annotation) ends
+  pub body : AnnotationRule s (walkOf f item) (item + 1) (a .annotation) ends

@@ -17,7 +17,7 @@ use Rattle.code_bodies.proofs.Exactly.{code-exact}
 use Rattle.debug_info.proofs.Exactly.{debug-exact}
 use Rattle.value_heads.specs.declared.Walk.{Walk}
 use Rattle.value_heads.specs.Kinds.{walkOf}
-use Rattle.encoded_value.proofs.Exactly.{array-exact}
+use Rattle.encoded_value.proofs.Exactly.{array-rule-exact}
 use Rattle.annotation_walk.proofs.Exactly.{directory-below-exact}
 use Rattle.table_readers.specs.Lists.{list-judge}
 use Rattle.class_walk.specs.Methods.{bodyAt, methodBelow, dataBelow}
@@ -48,7 +48,7 @@ module _ (s : List ℕ) (f : Frame) where
 pub values-exact : (s : List ℕ) (w : Walk) (p : ℕ) → Exact (valuesAt s w p) (ValuesRule s w p)
 unfolding valuesAt
 values-exact s w p =
-    exact-iff (bind-exact _ _ (array-exact s w 64 p) (λ a. answer-exact (a .item)))
+    exact-iff (bind-exact _ _ (array-rule-exact s w p) (λ a. answer-exact (a .item)))
     (λ l h. subst (ValuesRule s w p) (h .1 .1) (record { ends = h .0 .next; body = h .1 .0 }))
     (λ l h. (record { item = l; next = h .ends }, (h .body, refl)))
 

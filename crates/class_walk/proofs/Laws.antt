@@ -50,6 +50,7 @@ use Rattle.debug_info.specs.Debug.{debugAt, extentAt}
 use Rattle.debug_info.proofs.Laws.{on-debug}
 use Rattle.value_heads.specs.declared.Walk.{Walk}
 use Rattle.value_heads.specs.Kinds.{walkOf}
+use Rattle.encoded_value.specs.Depth.{deepest}
 use Rattle.encoded_value.specs.Readings.{arrayAt, pastArray}
 use Rattle.encoded_value.proofs.Leaves.{on-step}
 use Rattle.annotation_walk.specs.Below.{directoryBelow}
@@ -211,12 +212,12 @@ module _ (f : List ℕ) (h : Header) (handles at : ℕ) {s : List ℕ} (e : s �
   pub data-framed : {r : Frame} {y : Outcome Unit} → r ≡ frame-of h 0 → y ≡ (dataBelow s r at >>= accepted) → y ≡ (dataBelow (section f h) (frame-of h 0) at >>= accepted)
   data-framed g q = q ∙ λ i. dataBelow (e i) (g i) at >>= accepted
 
-  pub values-framed : {r : Frame} {w : Walk} {y : Outcome Unit} → r ≡ frame-of h handles → w ≡ walkOf r at → y ≡ (pastArray s w 64 at >>= accepted) → y ≡ (valuesAt (section f h) (walkOf (frame-of h handles) at) at >>= accepted)
+  pub values-framed : {r : Frame} {w : Walk} {y : Outcome Unit} → r ≡ frame-of h handles → w ≡ walkOf r at → y ≡ (pastArray s w deepest at >>= accepted) → y ≡ (valuesAt (section f h) (walkOf (frame-of h handles) at) at >>= accepted)
   unfolding valuesAt
   values-framed g w q =
-      q ∙ (λ i. pastArray (e i) ((w ∙ ap (λ (x : Frame). walkOf x at) g) i) 64 at >>= accepted)
-      ∙ made-kept _ (arrayAt (section f h) (walkOf (frame-of h handles) at) 64 at)
-      ∙ sym (made-kept _ (arrayAt (section f h) (walkOf (frame-of h handles) at) 64 at))
+      q ∙ (λ i. pastArray (e i) ((w ∙ ap (λ (x : Frame). walkOf x at) g) i) deepest at >>= accepted)
+      ∙ made-kept _ (arrayAt (section f h) (walkOf (frame-of h handles) at) deepest at)
+      ∙ sym (made-kept _ (arrayAt (section f h) (walkOf (frame-of h handles) at) deepest at))
 
 -- ---- a class
 module _ (f : List ℕ) (h : Header) (handles : ℕ) where

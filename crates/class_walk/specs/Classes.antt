@@ -11,6 +11,7 @@ use Rattle.class_ids.specs.Classes.{classAt}
 use Rattle.value_heads.specs.declared.Walk.{Walk}
 use Rattle.value_heads.specs.Kinds.{walkOf}
 use Rattle.encoded_value.specs.Tree.{Tree}
+use Rattle.encoded_value.specs.Depth.{deepest}
 use Rattle.encoded_value.specs.Readings.{arrayAt}
 use Rattle.annotation_walk.specs.Below.{Annotated, directoryBelow}
 use Rattle.table_readers.specs.Lists.{list-judge}
@@ -33,7 +34,7 @@ typesAccepted f h at = typesAt f h at >>= accepted
 -- static values: an array at depth 1
 unfoldable pub valuesAt : List ℕ → Walk → ℕ → Outcome (List Tree)
 valuesAt s w p = do
-  a ← arrayAt s w 64 p
+  a ← arrayAt s w deepest p
   answer (a .item)
 
 module _ (f : List ℕ) (h : Header) (handles : ℕ) where

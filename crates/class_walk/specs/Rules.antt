@@ -15,7 +15,7 @@ use Rattle.debug_info.specs.Rules.{DebugRule}
 use Rattle.value_heads.specs.declared.Walk.{Walk}
 use Rattle.value_heads.specs.Kinds.{walkOf}
 use Rattle.encoded_value.specs.Tree.{Tree}
-use Rattle.encoded_value.specs.Rules.{ArrayBody}
+use Rattle.encoded_value.specs.Rules.{ArrayRule}
 use Rattle.annotation_walk.specs.Rules.{DirectoryBelow}
 use Rattle.table_readers.specs.Lists.{list-judge}
 use Rattle.class_walk.specs.Methods.{Body, DataBelow}
@@ -38,7 +38,7 @@ module _ (s : List ℕ) (f : Frame) where
 -- static values: an array at depth 1, up to its end
 pub record ValuesRule (s : List ℕ) (w : Walk) (p : ℕ) (l : List Tree) : Type 0 where
   pub ends : ℕ
-  pub body : ArrayBody s w 64 p l ends
+  pub body : ArrayRule s w p l ends
 
 -- a list of types, none exactly where its offset is 0
 abbrev pub TypesRule : List ℕ → Header → ℕ → Option (List ℕ) → Type 0

@@ -1,5 +1,6 @@
 pub mod Leaves
 pub mod Cycle
+pub mod Layers
 pub mod Exactly
 pub mod Bounds
 pub mod Nested

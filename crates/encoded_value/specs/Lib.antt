@@ -1,4 +1,5 @@
 pub mod Tree
+pub mod Depth
 pub mod Readings
 pub mod Rules
 pub mod Answers

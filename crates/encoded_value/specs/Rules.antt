@@ -1,14 +1,14 @@
--- Values as rules: which bytes at a place are the encoding of which tree, with so many bodies that may still be opened. No walk.
+-- Values as rules: which bytes at a place are the encoding of which tree. No walk, and no depth in them: that a top body is no deeper than 64 is a fact of its own.
 use Prim.Native.Nat.{ℕ, zero, suc, _+_, _%_, _/_, _≤_, _<_}
 use mathlib.Core.Path.{_≡_}
-use mathlib.Core.List.{List}
+use mathlib.Core.List.{List, [], _∷_}
 use Rattle.refusal.specs.Rows.{Found}
-use Rattle.refusal.specs.Exact.{Row}
 use Rattle.leb128.specs.Rules.{Uleb}
 use Rattle.value_heads.specs.declared.Walk.{Walk}
 use Rattle.value_heads.specs.Kinds.{bytes-of, count-of}
 use Rattle.value_heads.specs.Rules.{Head, Number, Index}
 use Rattle.encoded_value.specs.Tree.{Named, Annotation, Tree, array, annotation, trees, elements-of, plainOf}
+use Rattle.encoded_value.specs.Depth.{deepest, array-depth, annotation-depth}
 
 module _ (s : List ℕ) (w : Walk) where
   -- a value that is no body, behind its head byte h
@@ -18,47 +18,41 @@ module _ (s : List ℕ) (w : Walk) where
     pub range : (0x15 ≤ h % 32) × (h % 32 < 0x1c) → number < count-of w (h % 32)
     pub value : plainOf (h % 32) (h / 32) number ≡ v
 
-  module _ (Element : ℕ → Tree → ℕ → Type 0) where
-    pub record ArrayWith (p : ℕ) (vs : List Tree) (q : ℕ) : Type 0 where
-      pub size : Found ℕ ℕ
-      pub uleb : Uleb s p size
-      pub row : Row Element (size .item) (size .next) vs q
+  mutual
+    -- from p to q stands the value v: its head byte, then the body that it opens, or its bytes
+    pub data Value : ℕ → Tree → ℕ → Type 0 where
+      an-array : {h p q : ℕ} {vs : List Tree} {v : Tree} → Head s p h → h % 32 ≡ 0x1c → ArrayBody (p + 1) vs q → array (p + 1) q (trees vs) ≡ v → Value p v q
+      an-annotation : {h p q : ℕ} {a : Annotation} {v : Tree} → Head s p h → h % 32 ≡ 0x1d → AnnotationBody (p + 1) a q
+          → annotation (p + 1) q (a .type-index) (elements-of (a .elements)) ≡ v → Value p v q
+      no-body : {h p q : ℕ} {v : Tree} → Head s p h → (h % 32 ≡ 0x1c → ⊥) → (h % 32 ≡ 0x1d → ⊥) → Plain h (p + 1) v q → Value p v q
 
-    pub record NamedWith (p : ℕ) (e : Named) (q : ℕ) : Type 0 where
-      pub after-name : ℕ
-      pub name-is : Index s (w .strings) p (record { item = e .name; next = after-name })
-      pub value-is : Element after-name (e .value) q
+    -- "An array holds values": its size, and so many values
+    pub data ArrayBody : ℕ → List Tree → ℕ → Type 0 where
+      array-body : {p q : ℕ} {size : Found ℕ ℕ} {vs : List Tree} → Uleb s p size → ValueRow (size .item) (size .next) vs q → ArrayBody p vs q
 
-    pub record AnnotationWith (p : ℕ) (a : Annotation) (q : ℕ) : Type 0 where
-      pub after-type : ℕ
-      pub type-is : Index s (w .types) p (record { item = a .type-index; next = after-type })
-      pub size : Found ℕ ℕ
-      pub uleb : Uleb s after-type size
-      pub row : Row NamedWith (size .item) (size .next) (a .elements) q
+    -- "an annotation holds named values": its type, its size, and so many named values
+    pub data AnnotationBody : ℕ → Annotation → ℕ → Type 0 where
+      annotation-body : {p q from : ℕ} {size : Found ℕ ℕ} {a : Annotation} → Index s (w .types) p (record { item = a .type-index; next = from }) → Uleb s from size
+          → NamedRow (size .item) (size .next) (a .elements) q → AnnotationBody p a q
 
-  module _ (Body : ℕ → List Tree → ℕ → Type 0) (Noted : ℕ → Annotation → ℕ → Type 0) where
-    pub data KindWith (h p : ℕ) : Tree → ℕ → Type 0 where
-      an-array : {vs : List Tree} {q : ℕ} → h % 32 ≡ 0x1c → Body p vs q → KindWith h p (array p q (trees vs)) q
-      an-annotation : {a : Annotation} {q : ℕ} → h % 32 ≡ 0x1d → Noted p a q → KindWith h p (annotation p q (a .type-index) (elements-of (a .elements))) q
-      no-body : {v : Tree} {q : ℕ} → (h % 32 ≡ 0x1c → ⊥) → (h % 32 ≡ 0x1d → ⊥) → Plain h p v q → KindWith h p v q
+    -- a name, and the value
+    pub data NamedValue : ℕ → Named → ℕ → Type 0 where
+      a-named : {p q from : ℕ} {e : Named} → Index s (w .strings) p (record { item = e .name; next = from }) → Value from (e .value) q → NamedValue p e q
 
-    pub record ValueWith (p : ℕ) (v : Tree) (q : ℕ) : Type 0 where
-      pub head : ℕ
-      pub head-is : Head s p head
-      pub kind-is : KindWith head (p + 1) v q
+    -- n of them in a row, each from where the last one ended: as `Row` says it, which cannot be said of a type that is being declared
+    pub data ValueRow : ℕ → ℕ → List Tree → ℕ → Type 0 where
+      no-value : {p : ℕ} → ValueRow zero p [] p
+      next-value : {n p q r : ℕ} {v : Tree} {vs : List Tree} → Value p v q → ValueRow n q vs r → ValueRow (suc n) p (v ∷ vs) r
 
-  -- "A top body is depth 1": no body where none may be opened
-  abbrev pub None : {A : Type 0} → ℕ → A → ℕ → Type 0
-  None p a q = ⊥
+    pub data NamedRow : ℕ → ℕ → List Named → ℕ → Type 0 where
+      no-named : {p : ℕ} → NamedRow zero p [] p
+      next-named : {n p q r : ℕ} {e : Named} {es : List Named} → NamedValue p e q → NamedRow n q es r → NamedRow (suc n) p (e ∷ es) r
 
-  unfoldable pub Value : ℕ → ℕ → Tree → ℕ → Type 0
-  Value zero = ValueWith None None
-  Value (suc left) = ValueWith (ArrayWith (Value left)) (AnnotationWith (Value left))
+-- "A top body is depth 1; depth 65 is 13": a body that lies in no other, or that is asked for by place
+pub record ArrayRule (s : List ℕ) (w : Walk) (p : ℕ) (vs : List Tree) (q : ℕ) : Type 0 where
+  pub body : ArrayBody s w p vs q
+  pub shallow : array-depth vs ≤ deepest
 
-  unfoldable pub ArrayBody : ℕ → ℕ → List Tree → ℕ → Type 0
-  ArrayBody zero = None
-  ArrayBody (suc left) = ArrayWith (Value left)
-
-  unfoldable pub AnnotationBody : ℕ → ℕ → Annotation → ℕ → Type 0
-  AnnotationBody zero = None
-  AnnotationBody (suc left) = AnnotationWith (Value left)
+pub record AnnotationRule (s : List ℕ) (w : Walk) (p : ℕ) (a : Annotation) (q : ℕ) : Type 0 where
+  pub body : AnnotationBody s w p a q
+  pub shallow : annotation-depth a ≤ deepest

@@ -8,9 +8,16 @@ use value_heads::Walk;
 ghost use mathlib.Core.Path.{_≡_};
 ghost use Rattle.value_heads.specs.Kinds.{bytes-of};
 ghost use Rattle.encoded_value.specs.Readings.{startAt, pastNumber, pastPlain, pastValue, pastArray, pastAnnotation};
+ghost use Rattle.encoded_value.specs.Depth.{deepest};
 ghost use Rattle.encoded_value.specs.Answers.{step-outcome};
 ghost use Rattle.encoded_value.specs.Stages.{Bodyless, indexPast, pastValues, pastBody};
 ghost use Rattle.leb128.specs.Answers.{leb-outcome};
+
+// How deep bodies may lie one inside the other: `deepest` in the definitions.
+pub const DEEPEST: u32 = 64;
+
+// How deep a value of a top body may be: `deepest-value`.
+pub const DEEPEST_VALUE: u32 = DEEPEST - 1;
 
 // Where to go on.
 pub enum Step {
@@ -215,15 +222,15 @@ pub fn annotation_start(s: &[u8], w: Walk, at: usize) -> Leb
     }
 }
 
-// A top body is depth 1, and the deepest that may be opened is 64.
+// A top body is depth 1, and the deepest that may be opened is DEEPEST.
 pub fn top_array(s: &[u8], w: Walk, at: usize) -> Step
-    ensures { λ r. ⌜ step-outcome r ≡ pastArray (now (s .entry)) w 64 at ⌝ }
+    ensures { λ r. ⌜ step-outcome r ≡ pastArray (now (s .entry)) w deepest at ⌝ }
 {
-    array_body(s, w, at, 64)
+    array_body(s, w, at, DEEPEST)
 }
 
 pub fn top_annotation(s: &[u8], w: Walk, at: usize) -> Step
-    ensures { λ r. ⌜ step-outcome r ≡ pastAnnotation (now (s .entry)) w 64 at ⌝ }
+    ensures { λ r. ⌜ step-outcome r ≡ pastAnnotation (now (s .entry)) w deepest at ⌝ }
 {
-    annotation_body(s, w, at, 64)
+    annotation_body(s, w, at, DEEPEST)
 }

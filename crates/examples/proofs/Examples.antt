@@ -14,6 +14,7 @@ use Rattle.value_heads.specs.declared.Walk.{Walk}
 use Rattle.value_heads.specs.Kinds.{arguments, allowed-head, bytes-of, is-index, in-range}
 use Rattle.value_heads.specs.Numbers as N
 use Rattle.encoded_value.specs.Tree.{restOf, plainOf}
+use Rattle.encoded_value.specs.Depth.{deepest-value}
 use Rattle.value_heads.specs.Readings.{headAt, numberAt, checkedAt}
 use Rattle.encoded_value.specs.Readings.{plainAt, kindWith, valueWith, valueAt}
 use Rattle.decoded_value.specs.Shown.{Shown, is, integer, natural, floating}
@@ -47,7 +48,7 @@ three s = M.membersAt s (record { limit = 8; code = false; start = 0 }) 7 0 3 >>
 abbrev pub Holds : Case → Type 0
 Holds (unsigned s o) = ulebAt s 7 0 ≡ o
 Holds (as-signed s o) = slebAt s 7 0 ≡ o
-Holds (value s o) = decodedAt s item 63 0 ≡ o
+Holds (value s o) = decodedAt s item deepest-value 0 ≡ o
 Holds (members s o) = three s ≡ o
 
 abbrev pub All : List Case → Type 0

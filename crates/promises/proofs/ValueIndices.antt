@@ -1,6 +1,6 @@
 -- On a file of which a reading is known, each index in values, annotations and directories is the number of a row that is there.
 -- Assumes nothing.
-use Prim.Native.Nat.{ℕ, zero, suc, _+_, _*_, _%_, _/_, _<_, _≤_}
+use Prim.Native.Nat.{ℕ, _+_, _*_, _%_, _/_, _<_, _≤_}
 use mathlib.Core.Path.{_≡_, refl, sym, subst, _∙_}
 use mathlib.Core.Bool.{Bool, true, false, cond, _&&_, _||_}
 use mathlib.Core.Option.{Option}
@@ -16,8 +16,10 @@ use Rattle.header.specs.Header.{section, frame-of}
 use Rattle.value_heads.specs.declared.Walk.{Walk}
 use Rattle.value_heads.specs.Kinds.{arguments, count-of}
 use Rattle.encoded_value.specs.Tree.{Named, Annotation, Tree, byte, short, char, int, long, float, double, index, null, boolean, array, annotation, restOf, plainOf}
-use Rattle.encoded_value.specs.Rules.{KindWith, an-array, an-annotation, no-body, Value, AnnotationBody}
-use Rattle.encoded_value.proofs.Bounds.{named-with-extent, value-extent}
+use Rattle.encoded_value.specs.Depth.{deepest-value}
+use Rattle.encoded_value.specs.Rules.{Value, an-array, an-annotation, no-body}
+use Rattle.encoded_value.proofs.Layers.{AnnotationWithin, annotation-parts}
+use Rattle.encoded_value.proofs.Bounds.{named-within-extent}
 use Rattle.decoded_value.proofs.Laws.{all-below, all-there}
 use Rattle.annotation_lists.specs.Fixed.{Fixed}
 use Rattle.annotation_directories.specs.Directories.{Entry}
@@ -82,15 +84,10 @@ module _ (w : Walk) where
 
 -- ---- a value of the file
 module _ (s : List ℕ) (w : Walk) where
-  kind-in-range : {B : ℕ → List Tree → ℕ → Type 0} {M : ℕ → Annotation → ℕ → Type 0} {h p q : ℕ} {v : Tree} → h / 32 < getD arguments (h % 32) 0 → KindWith s w B M h p v q → In-range w v
-  kind-in-range known (an-array c k) = tt
-  kind-in-range known (an-annotation c k) = tt
-  kind-in-range {h = h} known (no-body n m k) = subst (In-range w) (k .value) (plain-in-range w (h % 32) (h / 32) (k .number) (omega arith) known n m (k .range))
-
-  value-in-range : (left p q : ℕ) (v : Tree) → Value s w left p v q → In-range w v
-  unfolding Value
-  value-in-range zero p q v k = kind-in-range (k .head-is .known) (k .kind-is)
-  value-in-range (suc left) p q v k = kind-in-range (k .head-is .known) (k .kind-is)
+  value-in-range : {p q : ℕ} {v : Tree} → Value s w p v q → In-range w v
+  value-in-range (an-array h c k e) = subst (In-range w) e tt
+  value-in-range (an-annotation h c k e) = subst (In-range w) e tt
+  value-in-range (no-body {h = h} i n m k) = subst (In-range w) (k .value) (plain-in-range w (h % 32) (h / 32) (k .number) (omega arith) (i .known) n m (k .range))
 
 module _ (f : List ℕ) {r : File} (reads : Reads f r) where
   rows-counted : (item code : ℕ) → count-of (walk f reads item) code ≡ rows r code
@@ -105,20 +102,20 @@ module _ (f : List ℕ) {r : File} (reads : Reads f r) where
   index-in : {code n : ℕ} → ValueIn r (index code n) → (0x15 ≤ code) × (code < 0x1c) × (n < rows r code)
   index-in {code} {n} i =
       let v = value-in f reads i in
-      let c = value-in-range (section f (r .header)) (walk f reads (v .item)) (v .left) (v .place) (v .ends) (index code n) (v .rule) in
+      let c = value-in-range (section f (r .header)) (walk f reads (v .item)) (v .rule) in
       (c .0, c .1, subst (λ (x : ℕ). n < x) (rows-counted (v .item) code) (c .2))
 
   -- ---- the type of an annotation, and its names
   module _ {item p q : ℕ} {a : Annotation} (b : Body-there f reads item p q a) where
+    parts : AnnotationWithin (section f (r .header)) (walk f reads item) deepest-value p a q
+    parts = annotation-parts (section f (r .header)) (walk f reads item) (b .body .body) (b .body .shallow)
+
     type-there : a .type-index < length (r .types)
-    unfolding AnnotationBody
-    type-there = subst (λ (x : ℕ). a .type-index < x) (sym (reads .types .each .count)) (b .body .type-is .range)
+    type-there = subst (λ (x : ℕ). a .type-index < x) (sym (reads .types .each .count)) (parts .type-is .range)
 
     name-there : {k : ℕ} {e : Named} → At (a .elements) k e → e .name < length (r .strings)
-    unfolding AnnotationBody
     name-there {e = e} m =
-        let s = section f (r .header) in
-        let found = row-at (named-with-extent s (walk f reads item) (value-extent s (walk f reads item) 63)) (b .body .row) m in
+        let found = row-at (named-within-extent (section f (r .header)) (walk f reads item) deepest-value) (parts .row) m in
         subst (λ (x : ℕ). e .name < x) (sym (reads .strings .each .count)) (found .2 .0 .name-is .range)
 
   -- ---- the entries of a directory

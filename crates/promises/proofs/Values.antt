@@ -19,9 +19,11 @@ use Rattle.value_heads.specs.declared.Walk.{Walk}
 use Rattle.value_heads.specs.Kinds.{walkOf}
 use Rattle.encoded_value.specs.Tree.{Named, Annotation, Tree, array, annotation, Trees, no-tree, tree, Elements, no-element, element, trees, elements-of}
 use Rattle.encoded_value.specs.Readings.{arrayAt, annotationAt}
-use Rattle.encoded_value.specs.Rules.{Value, ArrayBody, AnnotationBody}
-use Rattle.encoded_value.proofs.Exactly.{array-exact, annotation-exact}
-use Rattle.encoded_value.proofs.Bounds.{Extent, Ends, uleb-extent, named-with-extent, value-extent, array-extent, annotation-extent}
+use Rattle.encoded_value.specs.Depth.{deepest, deepest-value, depth}
+use Rattle.encoded_value.specs.Rules.{Value, ArrayRule, AnnotationRule}
+use Rattle.encoded_value.proofs.Exactly.{array-rule-exact, annotation-rule-exact}
+use Rattle.encoded_value.proofs.Layers.{array-parts, annotation-parts}
+use Rattle.encoded_value.proofs.Bounds.{Extent, Ends, uleb-extent, within-extent, named-within-extent, array-extent, annotation-extent}
 use Rattle.encoded_value.proofs.Nested.{nested-array, nested-annotation}
 use Rattle.decoded_value.specs.Shown.{shown}
 use Rattle.value_bodies.specs.Bodies.{pick, arrayCount, arrayValue, annotationNoted, annotationElement}
@@ -75,63 +77,65 @@ module _ (f : List ℕ) {r : File} (reads : Reads f r) where
 
   -- ---- a body that stands in the data section, as an item of its own
   pub record Array-there (p q : ℕ) (vs : List Tree) : Type 0 where
-    pub body : ArrayBody (section f (r .header)) (walk p) 64 p vs q
+    pub body : ArrayRule (section f (r .header)) (walk p) p vs q
     pub low : r .header .start ≤ p
 
   pub record Body-there (item p q : ℕ) (a : Annotation) : Type 0 where
-    pub body : AnnotationBody (section f (r .header)) (walk item) 64 p a q
+    pub body : AnnotationRule (section f (r .header)) (walk item) p a q
     pub low : r .header .start ≤ p
 
   -- and a value in it
   pub record Value-there (v : Tree) : Type 0 where
     pub item : ℕ
-    pub left : ℕ
     pub place : ℕ
     pub ends : ℕ
-    pub shallow : left ≤ 64
     pub low : r .header .start ≤ place
-    pub rule : Value (section f (r .header)) (walk item) left place v ends
+    pub rule : Value (section f (r .header)) (walk item) place v ends
+    pub shallow : depth v ≤ deepest
 
   value-of-array : {p q k : ℕ} {vs : List Tree} {v : Tree} → Array-there p q vs → At vs k v → Value-there v
-  unfolding ArrayBody
   value-of-array {p} b m =
-      let found = row-at (value-extent (section f (r .header)) (walk p) 63) (b .body .row) m in
-      let e = uleb-extent (section f (r .header)) (walk p) (b .body .uleb) .after-place in
+      let s = section f (r .header) in
+      let parts = array-parts s (walk p) (b .body .body) (b .body .shallow) in
+      let found = row-at (within-extent s (walk p) deepest-value) (parts .row) m in
+      let e = uleb-extent s (walk p) (parts .uleb) .after-place in
       let l = b .low in
       let x = found .2 .1 in
-      record { item = p; left = 63; place = found .0; ends = found .1; shallow = omega arith; low = omega arith; rule = found .2 .0 }
+      let d = found .2 .0 .1 in
+      record { item = p; place = found .0; ends = found .1; low = omega arith; rule = found .2 .0 .0; shallow = omega arith }
 
   value-of-body : {item p q k : ℕ} {a : Annotation} {e : Named} → Body-there item p q a → At (a .elements) k e → Value-there (e .value)
-  unfolding AnnotationBody
   value-of-body {item} {p} b m =
       let s = section f (r .header) in
-      let found = row-at (named-with-extent s (walk item) (value-extent s (walk item) 63)) (b .body .row) m in
-      let t = uleb-extent s (walk item) (b .body .type-is .uleb) .after-place in
-      let n = uleb-extent s (walk item) (b .body .uleb) .after-place in
+      let parts = annotation-parts s (walk item) (b .body .body) (b .body .shallow) in
+      let found = row-at (named-within-extent s (walk item) deepest-value) (parts .row) m in
+      let t = uleb-extent s (walk item) (parts .type-is .uleb) .after-place in
+      let n = uleb-extent s (walk item) (parts .uleb) .after-place in
       let named = found .2 .0 in
       let i = uleb-extent s (walk item) (named .name-is .uleb) .after-place in
       let l = b .low in
       let x = found .2 .1 in
-      record { item = item; left = 63; place = named .after-name; ends = found .1; shallow = omega arith; low = omega arith; rule = named .value-is }
+      let d = named .value-is .1 in
+      record { item = item; place = named .after-name; ends = found .1; low = omega arith; rule = named .value-is .0; shallow = omega arith }
 
   array-of : {p q : ℕ} (vs : List Tree) → Value-there (array p q (trees vs)) → Array-there p q vs
   array-of {p} {q} vs v =
-      let i = nested-array (section f (r .header)) (walk (v .item)) (v .left) (v .shallow) (v .place) (v .ends) p q (trees vs) (v .rule) in
+      let i = nested-array (section f (r .header)) (walk (v .item)) (v .place) (v .ends) p q (trees vs) (v .rule) (v .shallow) in
       let l = v .low in
       let x = i .1 .2 in
       record {
-        body = subst (λ (us : List Tree). ArrayBody (section f (r .header)) (walk p) 64 p us q) (sym (trees-back (i .0)) ∙ ap listed-trees (i .1 .0) ∙ trees-back vs) (i .1 .1);
+        body = subst (λ (us : List Tree). ArrayRule (section f (r .header)) (walk p) p us q) (sym (trees-back (i .0)) ∙ ap listed-trees (i .1 .0) ∙ trees-back vs) (i .1 .1);
         low = omega arith;
       }
 
   pub body-of : {p q t : ℕ} (es : List Named) → Value-there (annotation p q t (elements-of es)) → Body-there p p q (record { type-index = t; elements = es })
   body-of {p} {q} {t} es v =
-      let i = nested-annotation (section f (r .header)) (walk (v .item)) (v .left) (v .shallow) (v .place) (v .ends) p q t (elements-of es) (v .rule) in
+      let i = nested-annotation (section f (r .header)) (walk (v .item)) (v .place) (v .ends) p q t (elements-of es) (v .rule) (v .shallow) in
       let l = v .low in
       let x = i .1 .3 in
       let same = sym (elements-back (i .0 .elements)) ∙ ap listed-elements (i .1 .1) ∙ elements-back es in
       record {
-        body = subst (λ (a : Annotation). AnnotationBody (section f (r .header)) (walk p) 64 p a q) (λ j. record { type-index = i .1 .0 j; elements = same j }) (i .1 .2);
+        body = subst (λ (a : Annotation). AnnotationRule (section f (r .header)) (walk p) p a q) (λ j. record { type-index = i .1 .0 j; elements = same j }) (i .1 .2);
         low = omega arith;
       }
 
@@ -178,11 +182,11 @@ module _ (f : List ℕ) {r : File} (reads : Reads f r) where
       record { from = low; before-end = omega arith; multiple = λ e. absurd (false≢true e) }
 
   module _ {p q : ℕ} {vs : List Tree} (b : Array-there p q vs) where
-    array-read : arrayAt (section f (r .header)) (walk p) 64 p ≡ answer (record { item = vs; next = q })
-    array-read = array-exact (section f (r .header)) (walk p) 64 p .complete (record { item = vs; next = q }) (b .body)
+    array-read : arrayAt (section f (r .header)) (walk p) deepest p ≡ answer (record { item = vs; next = q })
+    array-read = array-rule-exact (section f (r .header)) (walk p) p .complete (record { item = vs; next = q }) (b .body)
 
     array-allowed : Allowed (r .header .start) (r .header .end) false p
-    array-allowed = in-section (b .low) (array-extent (section f (r .header)) (walk p) 64 p vs q (b .body))
+    array-allowed = in-section (b .low) (array-extent (section f (r .header)) (walk p) p vs q (b .body .body))
 
     array-sized : B.arrayOf f p ≡ answer (record { count = length vs; length = q - p })
     unfolding B.arrayOf B.arrayBody arrayCount
@@ -193,11 +197,11 @@ module _ (f : List ℕ) {r : File} (reads : Reads f r) where
     array-valued k = bind-answer _ (opened-within f reads array-allowed) ∙ bind-answer _ array-read
 
   module _ {p q : ℕ} {a : Annotation} (b : Body-there p p q a) where
-    body-read : annotationAt (section f (r .header)) (walk p) 64 p ≡ answer (record { item = a; next = q })
-    body-read = annotation-exact (section f (r .header)) (walk p) 64 p .complete (record { item = a; next = q }) (b .body)
+    body-read : annotationAt (section f (r .header)) (walk p) deepest p ≡ answer (record { item = a; next = q })
+    body-read = annotation-rule-exact (section f (r .header)) (walk p) p .complete (record { item = a; next = q }) (b .body)
 
     body-allowed : Allowed (r .header .start) (r .header .end) false p
-    body-allowed = in-section (b .low) (annotation-extent (section f (r .header)) (walk p) 64 p a q (b .body))
+    body-allowed = in-section (b .low) (annotation-extent (section f (r .header)) (walk p) p a q (b .body .body))
 
     body-sized : B.bodyOf f p ≡ answer (record { type-index = a .type-index; count = length (a .elements); length = q - p })
     unfolding B.bodyOf B.notedBody annotationNoted
@@ -212,13 +216,13 @@ module _ (f : List ℕ) {r : File} (reads : Reads f r) where
   unfolding R.valuesIn arrayCount
   statics-counted {at} (absent e) = sym (leaves (arrayCount (section f (r .header)) (walk at) at) (le-ltb 0 at (omega arith)) refl)
   statics-counted {at} (found-there {a = l} p rule) =
-      sym (picks (answer 0) (lt-ltb 0 at p) refl) ∙ bind-answer _ (array-exact (section f (r .header)) (walk at) 64 at .complete (record { item = l; next = rule .ends }) (rule .body))
+      sym (picks (answer 0) (lt-ltb 0 at p) refl) ∙ bind-answer _ (array-rule-exact (section f (r .header)) (walk at) at .complete (record { item = l; next = rule .ends }) (rule .body))
 
   statics-numbered : {at : ℕ} {o : Option (List Tree)} → Statics-there at o → (k : ℕ) → R.valueIn f (r .header) (r .map .handles .count) at k ≡ (pick k (listed o) >>= λ (v : Tree). answer (shown v))
   unfolding R.valueIn arrayValue
   statics-numbered {at} (absent e) k = sym (leaves (arrayValue (section f (r .header)) (walk at) at k) (le-ltb 0 at (omega arith)) refl) ∙ pick-empty k _
   statics-numbered {at} (found-there {a = l} p rule) k =
-      sym (picks _ (lt-ltb 0 at p) refl) ∙ bind-answer _ (array-exact (section f (r .header)) (walk at) 64 at .complete (record { item = l; next = rule .ends }) (rule .body))
+      sym (picks _ (lt-ltb 0 at p) refl) ∙ bind-answer _ (array-rule-exact (section f (r .header)) (walk at) at .complete (record { item = l; next = rule .ends }) (rule .body))
 
   top-there : {n : ℕ} {c : ClassBelow} {l : List Tree} → At (r .classes) n c → c .values ≡ some l → TopArray f r (c .own .values) l
   top-there {c = c} m e =

@@ -10,16 +10,17 @@ use Rattle.refusal.proofs.Laws.{bind-answer, bind-refused}
 use Rattle.refusal.proofs.Each.{at-some}
 use Rattle.value_heads.specs.declared.Walk.{Walk}
 use Rattle.encoded_value.specs.Tree.{Tree, Named, Annotation}
+use Rattle.encoded_value.specs.Depth.{deepest}
 use Rattle.encoded_value.specs.Readings.{arrayAt, annotationAt}
-use Rattle.encoded_value.specs.Rules.{ArrayBody, AnnotationBody}
-use Rattle.encoded_value.proofs.Exactly.{array-exact, annotation-exact}
+use Rattle.encoded_value.specs.Rules.{ArrayRule, AnnotationRule}
+use Rattle.encoded_value.proofs.Exactly.{array-rule-exact, annotation-rule-exact}
 use Rattle.decoded_value.specs.Shown.{shown}
 use Rattle.value_bodies.specs.Bodies.{arrayCount, arrayValue, annotationNoted, annotationElement}
 use Rattle.value_bodies.proofs.Picks.{pick-there, pick-none}
 
-module _ (s : List ℕ) (w : Walk) (p q : ℕ) (vs : List Tree) (h : ArrayBody s w 64 p vs q) where
-  read : arrayAt s w 64 p ≡ answer (record { item = vs; next = q })
-  read = array-exact s w 64 p .complete (record { item = vs; next = q }) h
+module _ (s : List ℕ) (w : Walk) (p q : ℕ) (vs : List Tree) (h : ArrayRule s w p vs q) where
+  read : arrayAt s w deepest p ≡ answer (record { item = vs; next = q })
+  read = array-rule-exact s w p .complete (record { item = vs; next = q }) h
 
   pub array-counted : arrayCount s w p ≡ answer (length vs)
   unfolding arrayCount
@@ -36,9 +37,9 @@ module _ (s : List ℕ) (w : Walk) (p q : ℕ) (vs : List Tree) (h : ArrayBody s
   unfolding arrayValue
   array-past k l = bind-answer _ read ∙ bind-refused _ (pick-none vs k l)
 
-module _ (s : List ℕ) (w : Walk) (p q : ℕ) (a : Annotation) (h : AnnotationBody s w 64 p a q) where
-  read-noted : annotationAt s w 64 p ≡ answer (record { item = a; next = q })
-  read-noted = annotation-exact s w 64 p .complete (record { item = a; next = q }) h
+module _ (s : List ℕ) (w : Walk) (p q : ℕ) (a : Annotation) (h : AnnotationRule s w p a q) where
+  read-noted : annotationAt s w deepest p ≡ answer (record { item = a; next = q })
+  read-noted = annotation-rule-exact s w p .complete (record { item = a; next = q }) h
 
   pub annotation-counted : annotationNoted s w p ≡ answer (record { type-index = a .type-index; count = length (a .elements) })
   unfolding annotationNoted

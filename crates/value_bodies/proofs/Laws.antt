@@ -24,12 +24,13 @@ use Rattle.encoded_value.specs.declared.Step.the-variants as S
 use Rattle.encoded_value.specs.Tree.{Tree, Named, Annotation}
 use Rattle.value_heads.specs.Readings.{indexAt}
 use Rattle.encoded_value.specs.Readings.{startAt, namedWith, valueAt, arrayAt, annotationAt, pastArray, pastAnnotation, pastValue, pastNamed}
-use Rattle.encoded_value.specs.Rules.{ArrayWith, AnnotationWith, Value, ArrayBody, AnnotationBody}
+use Rattle.encoded_value.specs.Depth.{deepest, deepest-value}
 use Rattle.encoded_value.specs.Answers.{step-outcome}
 use Rattle.encoded_value.proofs.Leaves.{on-step}
 use Rattle.encoded_value.proofs.Cycle.{named-is}
 use Rattle.value_heads.proofs.Exactly.{index-exact}
-use Rattle.encoded_value.proofs.Exactly.{value-exact, named-with-exact, array-exact, annotation-exact}
+use Rattle.encoded_value.proofs.Layers.{ArrayWithin, AnnotationWithin, array-parts, annotation-parts}
+use Rattle.encoded_value.proofs.Exactly.{value-exact, named-exact, array-exact, annotation-exact}
 use Rattle.decoded_value.specs.Shown.{Shown, shown}
 use Rattle.decoded_value.specs.Readings.{read-out, decodedAt}
 use Rattle.decoded_value.proofs.Laws.{on-decoded}
@@ -46,16 +47,15 @@ not-got e t h = never (sym (ap leb-outcome t) ∙ e ∙ h)
 -- ---- arrays
 module _ (s : List ℕ) (w : Walk) (p : ℕ) where
   -- an array that was read: its rule
-  array-rule : {r : Found (List Tree) ℕ} → arrayAt s w 64 p ≡ answer r → ArrayWith s w (Value s w 63) p (r .item) (r .next)
-  unfolding ArrayBody
-  array-rule {r} e = array-exact s w 64 p .sound r e
+  array-rule : {r : Found (List Tree) ℕ} → arrayAt s w deepest p ≡ answer r → ArrayWithin s w deepest-value p (r .item) (r .next)
+  array-rule {r} e = let h = array-exact s w deepest p .sound r e in array-parts s w (h .0) (h .1)
 
-  array-size : {r : Found (List Tree) ℕ} (e : arrayAt s w 64 p ≡ answer r) → ulebAt s (w .item) p ≡ answer (array-rule e .size)
+  array-size : {r : Found (List Tree) ℕ} (e : arrayAt s w deepest p ≡ answer r) → ulebAt s (w .item) p ≡ answer (array-rule e .size)
   array-size e = uleb-exact s (w .item) p .complete (array-rule e .size) (array-rule e .uleb)
 
-  module _ {x : Step} (e : step-outcome x ≡ pastArray s w 64 p) where
-    unread : {B : Type 0} {r : Refusal} (k : Found (List Tree) ℕ → Outcome B) → x ≡ S.Refused r → refused r ≡ (arrayAt s w 64 p >>= k)
-    unread k t = sym (bind-refused k (sym (past-refused (arrayAt s w 64 p) (sym (ap step-outcome t) ∙ e))))
+  module _ {x : Step} (e : step-outcome x ≡ pastArray s w deepest p) where
+    unread : {B : Type 0} {r : Refusal} (k : Found (List Tree) ℕ → Outcome B) → x ≡ S.Refused r → refused r ≡ (arrayAt s w deepest p >>= k)
+    unread k t = sym (bind-refused k (sym (past-refused (arrayAt s w deepest p) (sym (ap step-outcome t) ∙ e))))
 
     pub count-unread : {r : Refusal} → x ≡ S.Refused r → refused r ≡ arrayCount s w p
     unfolding arrayCount
@@ -66,10 +66,10 @@ module _ (s : List ℕ) (w : Walk) (p : ℕ) where
     value-unread k t = unread _ t
 
     module _ {q : ℕ} (t : x ≡ S.Next q) where
-      all : (r : Found (List Tree) ℕ) × ((answer r ≡ arrayAt s w 64 p) × (r .next ≡ q))
-      all = past-answer (arrayAt s w 64 p) (sym (ap step-outcome t) ∙ e)
+      all : (r : Found (List Tree) ℕ) × ((answer r ≡ arrayAt s w deepest p) × (r .next ≡ q))
+      all = past-answer (arrayAt s w deepest p) (sym (ap step-outcome t) ∙ e)
 
-      whole : arrayAt s w 64 p ≡ answer (all .0)
+      whole : arrayAt s w deepest p ≡ answer (all .0)
       whole = sym (all .1 .0)
 
       module _ {y : Leb} (f : leb-outcome y ≡ ulebAt s (w .item) p) where
@@ -97,25 +97,24 @@ module _ (s : List ℕ) (w : Walk) (p : ℕ) where
           pub value-kth : (k : ℕ) {z : Outcome Shown} → k < n → z ≡ kthValue s w m k → z ≡ arrayValue s w p k
           unfolding arrayValue kthValue valueThere decodedAt
           value-kth k h g =
-              let a = reached (valueAt s w 63) (value-exact s w 63) k (subst (λ (c : Found ℕ ℕ). k < c .item) (sym size-is) h) (array-rule whole .row) in
-              let way = subst (λ (c : Found ℕ ℕ). repeat k (pastValue s w 63) (c .next) ≡ answer (a .place)) size-is (a .way) in
+              let a = reached (valueAt s w deepest-value) (value-exact s w deepest-value) k (subst (λ (c : Found ℕ ℕ). k < c .item) (sym size-is) h) (array-rule whole .row) in
+              let way = subst (λ (c : Found ℕ ℕ). repeat k (pastValue s w deepest-value) (c .next) ≡ answer (a .place)) size-is (a .way) in
               g ∙ bind-answer _ way ∙ bind-answer _ (bind-answer read-out (a .there-is)) ∙ sym (bind-answer _ whole ∙ bind-answer _ (pick-there (a .number-is)))
 
 -- ---- annotations
 -- an element that was read, read out
-element-is : (s : List ℕ) (w : Walk) (p : ℕ) {e : Named} {q : ℕ} → namedWith s w (valueAt s w 63) p ≡ answer (record { item = e; next = q })
+element-is : (s : List ℕ) (w : Walk) (p : ℕ) {e : Named} {q : ℕ} → namedWith s w (valueAt s w deepest-value) p ≡ answer (record { item = e; next = q })
     → elementThere s w p ≡ answer (record { name = e .name; value = shown (e .value) })
 unfolding elementThere decodedAt
 element-is s w p {e} {q} h =
-    let r = named-with-exact s w (valueAt s w 63) (Value s w 63) (value-exact s w 63) p .sound (record { item = e; next = q }) h in
-    bind-answer _ (index-exact s (w .item) (w .strings) p .complete _ (r .name-is)) ∙ bind-answer _ (bind-answer read-out (value-exact s w 63 (r .after-name) .complete (record { item = e .value; next = q }) (r .value-is)))
+    let r = named-exact s w deepest-value p .sound (record { item = e; next = q }) h in
+    bind-answer _ (index-exact s (w .item) (w .strings) p .complete _ (r .name-is)) ∙ bind-answer _ (bind-answer read-out (value-exact s w deepest-value (r .after-name) .complete (record { item = e .value; next = q }) (r .value-is)))
 
 module _ (s : List ℕ) (w : Walk) (p : ℕ) where
-  annotation-rule : {r : Found Annotation ℕ} → annotationAt s w 64 p ≡ answer r → AnnotationWith s w (Value s w 63) p (r .item) (r .next)
-  unfolding AnnotationBody
-  annotation-rule {r} e = annotation-exact s w 64 p .sound r e
+  annotation-rule : {r : Found Annotation ℕ} → annotationAt s w deepest p ≡ answer r → AnnotationWithin s w deepest-value p (r .item) (r .next)
+  annotation-rule {r} e = let h = annotation-exact s w deepest p .sound r e in annotation-parts s w (h .0) (h .1)
 
-  module _ {r : Found Annotation ℕ} (e : annotationAt s w 64 p ≡ answer r) where
+  module _ {r : Found Annotation ℕ} (e : annotationAt s w deepest p ≡ answer r) where
     type-there : indexAt s (w .item) (w .types) p ≡ answer (record { item = r .item .type-index; next = annotation-rule e .after-type })
     type-there = index-exact s (w .item) (w .types) p .complete _ (annotation-rule e .type-is)
 
@@ -133,9 +132,9 @@ module _ (s : List ℕ) (w : Walk) (p : ℕ) where
     size-behind : {t m : ℕ} → indexAt s (w .item) (w .types) p ≡ answer (record { item = t; next = m }) → ulebAt s (w .item) m ≡ answer (annotation-rule e .size)
     size-behind g = subst (λ (c : Found ℕ ℕ). ulebAt s (w .item) (c .next) ≡ answer (annotation-rule e .size)) (type-is g) size-there
 
-  module _ {x : Step} (e : step-outcome x ≡ pastAnnotation s w 64 p) where
-    unnoted : {B : Type 0} {r : Refusal} (k : Found Annotation ℕ → Outcome B) → x ≡ S.Refused r → refused r ≡ (annotationAt s w 64 p >>= k)
-    unnoted k t = sym (bind-refused k (sym (past-refused (annotationAt s w 64 p) (sym (ap step-outcome t) ∙ e))))
+  module _ {x : Step} (e : step-outcome x ≡ pastAnnotation s w deepest p) where
+    unnoted : {B : Type 0} {r : Refusal} (k : Found Annotation ℕ → Outcome B) → x ≡ S.Refused r → refused r ≡ (annotationAt s w deepest p >>= k)
+    unnoted k t = sym (bind-refused k (sym (past-refused (annotationAt s w deepest p) (sym (ap step-outcome t) ∙ e))))
 
     pub head-unread : {r : Refusal} → x ≡ S.Refused r → refused r ≡ annotationNoted s w p
     unfolding annotationNoted
@@ -146,10 +145,10 @@ module _ (s : List ℕ) (w : Walk) (p : ℕ) where
     element-unread k t = unnoted _ t
 
     module _ {q : ℕ} (t : x ≡ S.Next q) where
-      noted : (r : Found Annotation ℕ) × ((answer r ≡ annotationAt s w 64 p) × (r .next ≡ q))
-      noted = past-answer (annotationAt s w 64 p) (sym (ap step-outcome t) ∙ e)
+      noted : (r : Found Annotation ℕ) × ((answer r ≡ annotationAt s w deepest p) × (r .next ≡ q))
+      noted = past-answer (annotationAt s w deepest p) (sym (ap step-outcome t) ∙ e)
 
-      there-all : annotationAt s w 64 p ≡ answer (noted .0)
+      there-all : annotationAt s w deepest p ≡ answer (noted .0)
       there-all = sym (noted .1 .0)
 
       -- the type, then the size
@@ -187,8 +186,8 @@ module _ (s : List ℕ) (w : Walk) (p : ℕ) where
           pub element-kth : (k : ℕ) {z : Outcome ShownElement} → k < n → z ≡ kthElement s w m k → z ≡ annotationElement s w p k
           unfolding annotationElement kthElement
           element-kth k h g =
-              let a = reached (namedWith s w (valueAt s w 63)) (named-with-exact s w (valueAt s w 63) (Value s w 63) (value-exact s w 63)) k (subst (λ (c : Found ℕ ℕ). k < c .item) (sym begins) h) (annotation-rule there-all .row) in
-              let way = subst (λ (c : Found ℕ ℕ). repeat k (pastNamed s w 63) (c .next) ≡ answer (a .place)) begins (a .way) in
+              let a = reached (namedWith s w (valueAt s w deepest-value)) (named-exact s w deepest-value) k (subst (λ (c : Found ℕ ℕ). k < c .item) (sym begins) h) (annotation-rule there-all .row) in
+              let way = subst (λ (c : Found ℕ ℕ). repeat k (pastNamed s w deepest-value) (c .next) ≡ answer (a .place)) begins (a .way) in
               g ∙ bind-answer _ way ∙ element-is s w (a .place) (a .there-is) ∙ sym (bind-answer _ there-all ∙ bind-answer _ (pick-there (a .number-is)))
 
 pub ruleset array-laws = (count-unread, count-no-size, count-got, value-unread, value-no-size, value-none, value-kth, needs)

@@ -6,6 +6,7 @@ use Rattle.refusal.specs.Outcome.{Outcome, answer, refused, _>>=_}
 use Rattle.refusal.specs.Rows.{repeat}
 use Rattle.value_heads.specs.declared.Walk.{Walk}
 use Rattle.value_heads.specs.Readings.{indexAt}
+use Rattle.encoded_value.specs.Depth.{deepest, deepest-value}
 use Rattle.encoded_value.specs.Readings.{arrayAt, annotationAt, pastValue, pastNamed}
 use Rattle.decoded_value.specs.Shown.{Shown, shown}
 use Rattle.decoded_value.specs.Readings.{decodedAt}
@@ -29,42 +30,42 @@ pub record ShownElement : Type 0 where
 module _ (s : List ℕ) (w : Walk) (p : ℕ) where
   unfoldable pub arrayCount : Outcome ℕ
   arrayCount = do
-    r ← arrayAt s w 64 p
+    r ← arrayAt s w deepest p
     answer (length (r .item))
 
   unfoldable pub arrayValue : ℕ → Outcome Shown
   arrayValue k = do
-    r ← arrayAt s w 64 p
+    r ← arrayAt s w deepest p
     v ← pick k (r .item)
     answer (shown v)
 
   unfoldable pub annotationNoted : Outcome Noted
   annotationNoted = do
-    r ← annotationAt s w 64 p
+    r ← annotationAt s w deepest p
     answer (record { type-index = r .item .type-index; count = length (r .item .elements) })
 
   unfoldable pub annotationElement : ℕ → Outcome ShownElement
   annotationElement k = do
-    r ← annotationAt s w 64 p
+    r ← annotationAt s w deepest p
     e ← pick k (r .item .elements)
     answer (record { name = e .name; value = shown (e .value) })
 
   -- stages of the code: what stands behind k values or elements
   abbrev pub valuesPast : ℕ → Outcome ℕ
-  valuesPast k = repeat k (pastValue s w 63) p
+  valuesPast k = repeat k (pastValue s w deepest-value) p
 
   abbrev pub elementsPast : ℕ → Outcome ℕ
-  elementsPast k = repeat k (pastNamed s w 63) p
+  elementsPast k = repeat k (pastNamed s w deepest-value) p
 
   unfoldable pub valueThere : Outcome Shown
   valueThere = do
-    v ← decodedAt s w 63 p
+    v ← decodedAt s w deepest-value p
     answer (v .item)
 
   unfoldable pub elementThere : Outcome ShownElement
   elementThere = do
     n ← indexAt s (w .item) (w .strings) p
-    v ← decodedAt s w 63 (n .next)
+    v ← decodedAt s w deepest-value (n .next)
     answer (record { name = n .item; value = v .item })
 
 module _ (s : List ℕ) (w : Walk) (from k : ℕ) where

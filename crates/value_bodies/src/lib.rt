@@ -1,6 +1,7 @@
 // Arrays and annotations by number: the body is gone over whole first, then a number that is not there is 7, then the k-th is read out.
 use decoded_value::Decoded;
 use decoded_value::Value;
+use encoded_value::DEEPEST_VALUE;
 use encoded_value::Step;
 use leb128::Leb;
 use refusal::Refusal;
@@ -52,7 +53,7 @@ fn values_past(s: &[u8], w: Walk, from: usize, k: u32) -> Step
     let mut p = from;
     let mut left = k;
     while 0 < left {
-        match encoded_value::value(s, w, p, 63) {
+        match encoded_value::value(s, w, p, DEEPEST_VALUE) {
             Step::Refused(r) => {
                 return Step::Refused(r);
             }
@@ -71,7 +72,7 @@ fn kth_value(s: &[u8], w: Walk, from: usize, k: u32) -> Picked
 {
     match values_past(s, w, from, k) {
         Step::Refused(r) => Picked::Refused(r),
-        Step::Next(at) => match decoded_value::decode_at(s, w, at, 63) {
+        Step::Next(at) => match decoded_value::decode_at(s, w, at, DEEPEST_VALUE) {
             Decoded::Refused(r) => Picked::Refused(r),
             Decoded::Got { value, next: _ } => Picked::Got(value),
         },
@@ -132,7 +133,7 @@ fn elements_past(s: &[u8], w: Walk, from: usize, k: u32) -> Step
             Leb::Refused(r) => {
                 return Step::Refused(r);
             }
-            Leb::Got { value: _, next: at } => match encoded_value::value(s, w, at, 63) {
+            Leb::Got { value: _, next: at } => match encoded_value::value(s, w, at, DEEPEST_VALUE) {
                 Step::Refused(r) => {
                     return Step::Refused(r);
                 }
@@ -152,7 +153,12 @@ fn element_at(s: &[u8], w: Walk, at: usize) -> Element
 {
     match value_heads::index_at(s, w.item, w.strings, at) {
         Leb::Refused(r) => Element::Refused(r),
-        Leb::Got { value: name, next } => match decoded_value::decode_at(s, w, next, 63) {
+        Leb::Got { value: name, next } => match decoded_value::decode_at(
+            s,
+            w,
+            next,
+            DEEPEST_VALUE,
+        ) {
             Decoded::Refused(r) => Element::Refused(r),
             Decoded::Got { value, next: _ } => Element::Got { name, value },
         },

@@ -14,6 +14,7 @@ use Rattle.table_readers.proofs.HeadLaws.{on-opened}
 use Rattle.class_ids.proofs.Laws.{laws as class-laws}
 use Rattle.value_heads.specs.declared.Walk.{Walk}
 use Rattle.value_heads.specs.Kinds.{walkOf}
+use Rattle.encoded_value.specs.Depth.{deepest}
 use Rattle.encoded_value.specs.Readings.{pastArray, pastAnnotation}
 use Rattle.encoded_value.specs.Answers.{step-outcome}
 use Rattle.encoded_value.specs.declared.Step.{Step}
@@ -58,11 +59,11 @@ module _ (f : List ℕ) (h : Header) (handles item : ℕ) {s : List ℕ} {r : Fr
   element-framed k q = q ∙ (λ i. itemElement (e i) (g i) item k)
 
 -- a body ends after its place
-pub array-room : (s : List ℕ) (w : Walk) (p : ℕ) {x : Step} {q : ℕ} → step-outcome x ≡ pastArray s w 64 p → x ≡ Next q → p ≤ q
-array-room s w p e t = let h = array-ends s w 64 p e t in let z = h .after-place in omega arith
+pub array-room : (s : List ℕ) (w : Walk) (p : ℕ) {x : Step} {q : ℕ} → step-outcome x ≡ pastArray s w deepest p → x ≡ Next q → p ≤ q
+array-room s w p e t = let h = array-ends s w deepest p e t in let z = h .after-place in omega arith
 
-pub annotation-room : (s : List ℕ) (w : Walk) (p : ℕ) {x : Step} {q : ℕ} → step-outcome x ≡ pastAnnotation s w 64 p → x ≡ Next q → p ≤ q
-annotation-room s w p e t = let h = annotation-ends s w 64 p e t in let z = h .after-place in omega arith
+pub annotation-room : (s : List ℕ) (w : Walk) (p : ℕ) {x : Step} {q : ℕ} → step-outcome x ≡ pastAnnotation s w deepest p → x ≡ Next q → p ≤ q
+annotation-room s w p e t = let h = annotation-ends s w deepest p e t in let z = h .after-place in omega arith
 
 pub on-count : {B : Type 0} {x c : Count} {o : Outcome ℕ} {y : Outcome B} (k : ℕ → Outcome B) → count-outcome x ≡ o → x ≡ c → y ≡ (count-outcome c >>= k) → y ≡ (o >>= k)
 on-count = said count-outcome

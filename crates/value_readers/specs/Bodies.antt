@@ -4,6 +4,7 @@ use mathlib.Core.List.{List}
 use Rattle.refusal.specs.Outcome.{Outcome, answer, _>>=_}
 use Rattle.header.specs.Header.{section}
 use Rattle.value_heads.specs.declared.Walk.{Walk}
+use Rattle.encoded_value.specs.Depth.{deepest}
 use Rattle.encoded_value.specs.Readings.{pastArray, pastAnnotation}
 use Rattle.decoded_value.specs.Shown.{Shown}
 use Rattle.value_bodies.specs.Bodies.{ShownElement, arrayCount, arrayValue, annotationNoted, annotationElement}
@@ -17,7 +18,7 @@ pub record Sized : Type 0 where
 unfoldable pub arrayBody : List ℕ → Walk → ℕ → Outcome Sized
 arrayBody s w p = do
   n ← arrayCount s w p
-  end ← pastArray s w 64 p
+  end ← pastArray s w deepest p
   answer (record { count = n; length = end - p })
 
 unfoldable pub arrayOf : List ℕ → ℕ → Outcome Sized
@@ -35,7 +36,7 @@ pub record NotedSize : Type 0 where
 unfoldable pub notedBody : List ℕ → Walk → ℕ → Outcome NotedSize
 notedBody s w p = do
   n ← annotationNoted s w p
-  end ← pastAnnotation s w 64 p
+  end ← pastAnnotation s w deepest p
   answer (record { type-index = n .type-index; count = n .count; length = end - p })
 
 unfoldable pub bodyOf : List ℕ → ℕ → Outcome NotedSize

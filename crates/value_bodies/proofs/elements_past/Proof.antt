@@ -1,4 +1,5 @@
 use Rattle.refusal.proofs.Laws.{Walk as Loop}
+use Rattle.encoded_value.specs.Depth.{deepest-value}
 use Rattle.encoded_value.specs.Readings.{pastNamed}
 use Rattle.value_bodies.specs.Bodies.{elementsPast}
 use Rattle.value_bodies.proofs.Laws.{past-laws as laws}
@@ -10,7 +11,7 @@ use Rattle.value_heads.proofs.index_at.Reads as index-at-reads
 use Rattle.encoded_value.proofs.value.Reads as value-reads
 
 abbrev Inv-loop : tie.InvT-loop
-Inv-loop s w from k p₀ left₀ p left = Loop (elementsPast s w from k) (pastNamed s w 63) left p
+Inv-loop s w from k p₀ left₀ p left = Loop (elementsPast s w from k) (pastNamed s w deepest-value) left p
 
 abbrev μ-loop : tie.MeasureT-loop
 μ-loop s w from k p₀ left₀ p left = left

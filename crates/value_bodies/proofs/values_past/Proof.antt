@@ -1,4 +1,5 @@
 use Rattle.refusal.proofs.Laws.{Walk as Loop}
+use Rattle.encoded_value.specs.Depth.{deepest-value}
 use Rattle.encoded_value.specs.Readings.{pastValue}
 use Rattle.value_bodies.specs.Bodies.{valuesPast}
 use Rattle.value_bodies.proofs.Laws.{past-laws as laws}
@@ -9,7 +10,7 @@ use Rattle.value_bodies.proofs.values_past.Lts as lts
 use Rattle.encoded_value.proofs.value.Reads as value-reads
 
 abbrev Inv-loop : tie.InvT-loop
-Inv-loop s w from k p₀ left₀ p left = Loop (valuesPast s w from k) (pastValue s w 63) left p
+Inv-loop s w from k p₀ left₀ p left = Loop (valuesPast s w from k) (pastValue s w deepest-value) left p
 
 abbrev μ-loop : tie.MeasureT-loop
 μ-loop s w from k p₀ left₀ p left = left
