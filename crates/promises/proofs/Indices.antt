@@ -32,7 +32,8 @@ use Rattle.class_walk.specs.Rules.{TypesRule, BodyRule, MethodRule, DataBelowRu
 use Rattle.whole_check.specs.File.{File}
 use Rattle.promises.specs.Reads.{Reads}
 use Rattle.promises.specs.Tables.{listed}
-use Rattle.promises.specs.Indices.{All, If-there, If-given, String, Kind, Field, Method, BodyIndices, DataIndices, ClassIndices, Indices}
+use Rattle.promises.specs.Numbers.{If-there, If-given}
+use Rattle.promises.proofs.InRange.{All, String, Kind, Field, Method, BodyIndices, DataIndices, ClassIndices, Indices}
 
 -- ---- what holds of each step holds of each item of a row
 pub all-none : {A : Type 0} (P : A → Type 0) → All P []

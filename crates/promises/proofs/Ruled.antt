@@ -20,8 +20,9 @@ use Rattle.class_walk.specs.Rules.{BodyRule, MethodRule, DataBelowRule}
 use Rattle.whole_check.specs.File.{File}
 use Rattle.promises.specs.Reads.{Reads}
 use Rattle.promises.specs.Methods.{bodiesOf, data-of, body-of, code-of}
-use Rattle.promises.specs.Indices.{All, If-there}
+use Rattle.promises.specs.Numbers.{If-there}
 use Rattle.promises.proofs.Asked.{made-same}
+use Rattle.promises.proofs.InRange.{All}
 use Rattle.promises.proofs.Indices.{all-none, if-present, alike-all}
 
 -- what is answered, if it is there

@@ -30,7 +30,7 @@ use Rattle.whole_check.specs.File.{File}
 use Rattle.promises.specs.Reads.{Reads}
 use Rattle.promises.specs.Annotations.{under}
 use Rattle.promises.specs.Values.{ValueIn}
-use Rattle.promises.specs.ValueIndices.{rows, ValueIndices}
+use Rattle.promises.proofs.InRange.{rows, ValueIndices}
 use Rattle.promises.proofs.Annotations.{Directory-there}
 use Rattle.promises.proofs.Values.{row-at, walk, Body-there, body-of, value-in, item-body}
 

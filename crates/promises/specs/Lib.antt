@@ -1,9 +1,12 @@
 pub mod Reads
 pub mod Tables
 pub mod Methods
-pub mod Indices
+pub mod Numbers
 pub mod Annotations
 pub mod Values
-pub mod ValueIndices
+pub mod RowsAnswered
+pub mod ValuesAnswered
+pub mod AnnotationsAnswered
+pub mod MethodsAnswered
 pub mod Given
 pub mod Promises
