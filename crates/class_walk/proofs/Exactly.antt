@@ -3,13 +3,13 @@
 use Prim.Native.Nat.{ℕ}
 use mathlib.Core.Path.{_≡_, refl, subst}
 use mathlib.Core.List.{List}
-use Rattle.refusal.specs.Exact.{Exact, Present}
+use Rattle.refusal.specs.Exact.{Exact}
 use Rattle.refusal.proofs.Exact.{same, answer-exact, bind-exact, exact-iff, present-exact}
 use Rattle.refusal.proofs.Through.{through-exact}
 use Rattle.frame.specs.declared.Frame.{Frame}
 use Rattle.header.specs.declared.Header.{Header}
 use Rattle.header.specs.Header.{section, frame-of}
-use Rattle.type_list.proofs.Exactly.{list-exact}
+use Rattle.type_list.proofs.Exactly.{types-below-exact}
 use Rattle.class_ids.proofs.Exactly.{class-exact}
 use Rattle.class_members.specs.declared.Member.{Member}
 use Rattle.class_data.proofs.Exactly.{data-exact}
@@ -19,10 +19,9 @@ use Rattle.value_heads.specs.declared.Walk.{Walk}
 use Rattle.value_heads.specs.Kinds.{walkOf}
 use Rattle.encoded_value.proofs.Exactly.{array-rule-exact}
 use Rattle.annotation_walk.proofs.Exactly.{directory-below-exact}
-use Rattle.table_readers.specs.Lists.{list-judge}
 use Rattle.class_walk.specs.Methods.{bodyAt, methodBelow, dataBelow}
-use Rattle.class_walk.specs.Classes.{ClassBelow, typesAt, valuesAt, annotationsAt, dataAt, staticsAt, below, classBelow}
-use Rattle.class_walk.specs.Rules.{BodyRule, MethodRule, DataBelowRule, ValuesRule, TypesRule, ClassBelowRule}
+use Rattle.class_walk.specs.Classes.{ClassBelow, valuesAt, annotationsAt, dataAt, staticsAt, below, classBelow}
+use Rattle.class_walk.specs.Rules.{BodyRule, MethodRule, DataBelowRule, ValuesRule, ClassBelowRule}
 
 module _ (s : List ℕ) (f : Frame) where
   pub body-exact : (item : ℕ) → Exact (bodyAt s f item) (BodyRule s f item)
@@ -52,16 +51,12 @@ values-exact s w p =
     (λ l h. subst (ValuesRule s w p) (h .1 .1) (record { ends = h .0 .next; body = h .1 .0 }))
     (λ l h. (record { item = l; next = h .ends }, (h .body, refl)))
 
-pub types-exact : (f : List ℕ) (h : Header) (at : ℕ) → Exact (typesAt f h at) (TypesRule f h at)
-unfolding typesAt
-types-exact f h at = present-exact at (list-exact (section f h) (list-judge h at))
-
 module _ (f : List ℕ) (h : Header) (handles n : ℕ) where
   pub class-below-exact : Exact (classBelow f h handles n) (ClassBelowRule f h handles n)
   unfolding classBelow below annotationsAt dataAt staticsAt
   class-below-exact =
       exact-iff (bind-exact _ _ (class-exact f (frame-of h 0) (h .end) (h .classes .offset) n) (λ c.
-      bind-exact _ _ (types-exact f h (c .interfaces)) (λ i.
+      bind-exact _ _ (types-below-exact f h (c .interfaces)) (λ i.
       bind-exact _ _ (present-exact (c .directory) (directory-below-exact (section f h) (frame-of h handles) (c .directory))) (λ a.
       bind-exact _ _ (present-exact (c .«data») (data-below-exact (section f h) (frame-of h 0) (c .«data»))) (λ d.
       bind-exact _ _ (present-exact (c .values) (values-exact (section f h) (walkOf (frame-of h handles) (c .values)) (c .values))) (λ v. answer-exact _))))))

@@ -1,32 +1,26 @@
 -- What the proofs of the going over cite: the stages of a body, of class data and of a class, and the loop over methods.
 -- Assumes nothing.
-use Prim.Native.Nat.{ℕ, zero, suc, _-_, _<_, _≤_}
+use Prim.Native.Nat.{ℕ, _-_, _<_, _≤_}
 use mathlib.Core.Path.{_≡_, refl, ap, sym, _∙_}
-use mathlib.Core.Bool.{Bool, true, false, cond}
-use mathlib.Core.Logic.{_⊎_, inl, inr}
+use mathlib.Core.Bool.{Bool, true, false}
 use mathlib.Core.Option.{Option}
 use mathlib.Core.List.{List}
 use lib.ListN.{length}
-use lib.Dec.{ltb}
 use borrow.Author.Needs.{needs}
-use borrow.Author.Tests.{lt-ltb, le-ltb}
-use native.Mathlib.Omega.{arith}
 use Rattle.refusal.specs.declared.Refusal.{Refusal}
 use Rattle.refusal.specs.declared.Checked.{Checked}
 use Rattle.refusal.specs.declared.Checked.the-variants as C
 use Rattle.refusal.specs.Outcome.{Outcome, answer, refused, _>>=_, present, accepted}
 use Rattle.refusal.specs.Rows.{Found, past, collect, through, with-below}
 use Rattle.refusal.specs.Answers.{checked-outcome}
-use Rattle.refusal.proofs.Laws.{said, bind-answer, bind-refused, tests, calls, picks, leaves}
+use Rattle.refusal.proofs.Laws.{said, bind-answer, bind-refused, tests, calls}
 use Rattle.refusal.proofs.Rows.{bind-assoc}
-use Rattle.refusal.proofs.Kept.{kept, accepted-answer, accepted-refused, kept-part, kept-on, made-kept, absent-kept, present-kept}
+use Rattle.refusal.proofs.Kept.{kept, accepted-answer, accepted-refused, kept-part, kept-on, made-kept}
 use Rattle.refusal.proofs.Through.{gone-over}
 use Rattle.refusal.proofs.Loops.{Gather, gather-first, gather-next, gather-stop, gather-done}
 use Rattle.frame.specs.declared.Frame.{Frame}
 use Rattle.header.specs.declared.Header.{Header}
 use Rattle.header.specs.Header.{section, frame-of}
-use Rattle.type_list.specs.TypeList.{listAt, countAt}
-use Rattle.type_list.proofs.Laws.{laws as list-laws}
 use Rattle.class_ids.specs.declared.Class.{Class}
 use Rattle.class_ids.specs.Classes.{classAt}
 use Rattle.class_ids.proofs.Laws.{laws as class-laws}
@@ -54,11 +48,11 @@ use Rattle.encoded_value.specs.Depth.{deepest}
 use Rattle.encoded_value.specs.Readings.{arrayAt, pastArray}
 use Rattle.encoded_value.proofs.Leaves.{on-step}
 use Rattle.annotation_walk.specs.Below.{directoryBelow}
-use Rattle.table_readers.specs.Lists.{list-judge, listCount}
+use Rattle.type_list.specs.Below.{typesBelow}
 use Rattle.class_walk.specs.declared.Passed.{Passed}
 use Rattle.class_walk.specs.Answers.{passed-outcome}
 use Rattle.class_walk.specs.Methods.{Body, DataBelow, bodyAt, methodBelow, dataBelow, debugAccepted, methodsPass, bothPass}
-use Rattle.class_walk.specs.Classes.{typesAt, valuesAt, annotationsAt, dataAt, staticsAt, below, classBelow, belowPass}
+use Rattle.class_walk.specs.Classes.{valuesAt, annotationsAt, dataAt, staticsAt, below, classBelow, belowPass}
 
 -- ---- a body
 pub debug-by : (s : List ℕ) (strings item : ℕ) {y : Outcome Unit} → y ≡ (extentAt s strings item >>= accepted) → y ≡ (debugAt s strings item >>= accepted)
@@ -189,22 +183,7 @@ module _ (s : List ℕ) (f : Frame) (item : ℕ) where
 pub on-passed : {B : Type 0} {x c : Passed} {o : Outcome ℕ} {y : Outcome B} (k : ℕ → Outcome B) → passed-outcome x ≡ o → x ≡ c → y ≡ (passed-outcome c >>= k) → y ≡ (o >>= k)
 on-passed = said passed-outcome
 
--- ---- lists of types, directories and static values that may be absent
-pub types-by : (f : List ℕ) (h : Header) (at : ℕ) {y : Outcome Unit} → y ≡ (listCount f h at >>= accepted) → y ≡ (typesAt f h at >>= accepted)
-unfolding typesAt listCount countAt
-types-by f h at e = e ∙ go (or-zero at)
-  where
-    or-zero : (n : ℕ) → (0 < n) ⊎ (n ≤ 0)
-    or-zero zero = inr (omega arith)
-    or-zero (suc n) = inl (omega arith)
-
-    go : (0 < at) ⊎ (at ≤ 0) → (cond (ltb 0 at) (countAt (section f h) (list-judge h at)) (answer 0) >>= accepted) ≡ (present at (listAt (section f h) (list-judge h at)) >>= accepted)
-    go (inl p) =
-        ap (λ (o : Outcome ℕ). o >>= accepted) (sym (picks (answer 0) (lt-ltb 0 at p) refl))
-        ∙ made-kept _ (listAt (section f h) (list-judge h at))
-        ∙ present-kept (listAt (section f h) (list-judge h at)) p refl
-    go (inr p) = ap (λ (o : Outcome ℕ). o >>= accepted) (sym (leaves (countAt (section f h) (list-judge h at)) (le-ltb 0 at p) refl)) ∙ bind-answer accepted refl ∙ absent-kept (listAt (section f h) (list-judge h at)) p
-
+-- ---- directories and static values that may be absent
 module _ (f : List ℕ) (h : Header) (handles at : ℕ) {s : List ℕ} (e : s ≡ section f h) where
   pub directory-framed : {r : Frame} {y : Outcome Unit} → r ≡ frame-of h handles → y ≡ (directoryBelow s r at >>= accepted) → y ≡ (directoryBelow (section f h) (frame-of h handles) at >>= accepted)
   directory-framed g q = q ∙ λ i. directoryBelow (e i) (g i) at >>= accepted
@@ -224,7 +203,7 @@ module _ (f : List ℕ) (h : Header) (handles : ℕ) where
   below-kept : (c : Class) → (below f h handles c >>= accepted) ≡ belowPass f h handles (c .interfaces) (c .directory) (c .«data») (c .values)
   unfolding below belowPass
   below-kept c =
-      kept-on (typesAt f h (c .interfaces)) _ _ _ refl (λ i t.
+      kept-on (typesBelow f h (c .interfaces)) _ _ _ refl (λ i t.
       kept-on (annotationsAt f h handles (c .directory)) _ _ _ refl (λ a t.
       kept-on (dataAt f h handles (c .«data»)) _ _ _ refl (λ d t.
       made-kept _ (staticsAt f h handles (c .values)))))
@@ -241,8 +220,6 @@ pub ruleset body-laws = (debug-by, on-debug, body-by, on-code, kept, calls, test
 pub ruleset loop-laws = (goes-first, goes-next, goes-stop, goes-fail, goes-done, needs)
 
 pub ruleset data-laws = (data-by, on-methods, on-passed, calls, needs)
-
-pub ruleset list-laws-of = (types-by, list-laws, calls, needs)
 
 pub ruleset framed = (directory-framed, data-framed, values-framed, on-step, kept, calls, needs)
 

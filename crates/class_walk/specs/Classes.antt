@@ -5,7 +5,7 @@ use mathlib.Core.List.{List}
 use Rattle.refusal.specs.Outcome.{Outcome, answer, _>>=_, present, accepted}
 use Rattle.header.specs.declared.Header.{Header}
 use Rattle.header.specs.Header.{section, frame-of}
-use Rattle.type_list.specs.TypeList.{listAt}
+use Rattle.type_list.specs.Below.{typesBelow, typesAccepted}
 use Rattle.class_ids.specs.declared.Class.{Class}
 use Rattle.class_ids.specs.Classes.{classAt}
 use Rattle.value_heads.specs.declared.Walk.{Walk}
@@ -14,7 +14,6 @@ use Rattle.encoded_value.specs.Tree.{Tree}
 use Rattle.encoded_value.specs.Depth.{deepest}
 use Rattle.encoded_value.specs.Readings.{arrayAt}
 use Rattle.annotation_walk.specs.Below.{Annotated, directoryBelow}
-use Rattle.table_readers.specs.Lists.{list-judge}
 use Rattle.class_walk.specs.Methods.{DataBelow, dataBelow}
 
 pub record ClassBelow : Type 0 where
@@ -23,13 +22,6 @@ pub record ClassBelow : Type 0 where
   pub annotations : Option Annotated
   pub members : Option DataBelow
   pub values : Option (List Tree)
-
--- a list of types that may be absent
-unfoldable pub typesAt : List ℕ → Header → ℕ → Outcome (Option (List ℕ))
-typesAt f h at = present at (listAt (section f h) (list-judge h at))
-
-abbrev pub typesAccepted : List ℕ → Header → ℕ → Outcome Unit
-typesAccepted f h at = typesAt f h at >>= accepted
 
 -- static values: an array at depth 1
 unfoldable pub valuesAt : List ℕ → Walk → ℕ → Outcome (List Tree)
@@ -49,7 +41,7 @@ module _ (f : List ℕ) (h : Header) (handles : ℕ) where
 
   unfoldable pub below : Class → Outcome ClassBelow
   below c = do
-    i ← typesAt f h (c .interfaces)
+    i ← typesBelow f h (c .interfaces)
     a ← annotationsAt (c .directory)
     d ← dataAt (c .«data»)
     v ← staticsAt (c .values)

@@ -6,7 +6,7 @@ use Rattle.refusal.specs.Exact.{Present, Alike}
 use Rattle.frame.specs.declared.Frame.{Frame}
 use Rattle.header.specs.declared.Header.{Header}
 use Rattle.header.specs.Header.{section, frame-of}
-use Rattle.type_list.specs.Rules.{ListRule}
+use Rattle.type_list.specs.Rules.{TypesBelowRule}
 use Rattle.class_ids.specs.Rules.{ClassRule}
 use Rattle.class_members.specs.declared.Member.{Member}
 use Rattle.class_data.specs.Rules.{DataRule}
@@ -17,7 +17,6 @@ use Rattle.value_heads.specs.Kinds.{walkOf}
 use Rattle.encoded_value.specs.Tree.{Tree}
 use Rattle.encoded_value.specs.Rules.{ArrayRule}
 use Rattle.annotation_walk.specs.Rules.{DirectoryBelow}
-use Rattle.table_readers.specs.Lists.{list-judge}
 use Rattle.class_walk.specs.Methods.{Body, DataBelow}
 use Rattle.class_walk.specs.Classes.{ClassBelow}
 
@@ -40,14 +39,10 @@ pub record ValuesRule (s : List ℕ) (w : Walk) (p : ℕ) (l : List Tree) : Type
   pub ends : ℕ
   pub body : ArrayRule s w p l ends
 
--- a list of types, none exactly where its offset is 0
-abbrev pub TypesRule : List ℕ → Header → ℕ → Option (List ℕ) → Type 0
-TypesRule f h at = Present (ListRule (section f h) (list-judge h at)) at
-
 -- class n and all that it leads to
 pub record ClassBelowRule (f : List ℕ) (h : Header) (handles n : ℕ) (c : ClassBelow) : Type 0 where
   pub own : ClassRule f (frame-of h 0) (h .end) (h .classes .offset) n (c .own)
-  pub interfaces : TypesRule f h (c .own .interfaces) (c .interfaces)
+  pub interfaces : TypesBelowRule f h (c .own .interfaces) (c .interfaces)
   pub annotations : Present (DirectoryBelow (section f h) (frame-of h handles) (c .own .directory)) (c .own .directory) (c .annotations)
   pub members : Present (DataBelowRule (section f h) (frame-of h 0) (c .own .«data»)) (c .own .«data») (c .members)
   pub values : Present (ValuesRule (section f h) (walkOf (frame-of h handles) (c .own .values)) (c .own .values)) (c .own .values) (c .values)

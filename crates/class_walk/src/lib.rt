@@ -12,11 +12,10 @@ use frame::Frame;
 use header::Header;
 use refusal::Checked;
 use refusal::Refusal;
-use type_list::CountAnswer;
 ghost use mathlib.Core.Path.{_≡_};
 ghost use Rattle.refusal.specs.Answers.{checked-outcome};
 ghost use Rattle.class_walk.specs.Methods.{debugAccepted, bodyAccepted, methodAccepted, methodsPass, bothPass, dataAccepted};
-ghost use Rattle.class_walk.specs.Classes.{typesAccepted, annotationsAccepted, membersAccepted, staticsAccepted, belowPass, classAccepted};
+ghost use Rattle.class_walk.specs.Classes.{annotationsAccepted, membersAccepted, staticsAccepted, belowPass, classAccepted};
 ghost use Rattle.class_walk.specs.Answers.{passed-outcome};
 
 // The place after a list of methods.
@@ -123,16 +122,6 @@ pub fn check_data(s: &[u8], f: Frame, item: usize) -> Checked
     }
 }
 
-// A list of types, if it is not absent.
-pub fn check_types(f: &[u8], h: Header, at: u32) -> Checked
-    ensures { λ r. ⌜ checked-outcome r ≡ typesAccepted (now (f .entry)) h at ⌝ }
-{
-    match table_readers::list_count(f, h, at) {
-        CountAnswer::Refused(r) => Checked::Refused(r),
-        CountAnswer::Got(_) => Checked::Accepted,
-    }
-}
-
 fn annotations_below(f: &[u8], h: Header, handles: u32, at: u32) -> Checked
     ensures { λ r. ⌜ checked-outcome r ≡ annotationsAccepted (now (f .entry)) h handles at ⌝ }
 {
@@ -185,7 +174,7 @@ fn below_pass(
 ) -> Checked
     ensures { λ r. ⌜ checked-outcome r ≡ belowPass (now (f .entry)) h handles interfaces directory members values ⌝ }
 {
-    match check_types(f, h, interfaces) {
+    match type_list::check_types(f, h, interfaces) {
         Checked::Refused(r) => Checked::Refused(r),
         Checked::Accepted => match annotations_below(f, h, handles, directory) {
             Checked::Refused(r) => Checked::Refused(r),

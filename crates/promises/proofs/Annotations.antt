@@ -9,12 +9,12 @@ use lib.ListN.{length, length-take}
 use borrow.Author.Tests.{lt-ltb, le-ltb}
 use native.Mathlib.Nat.{min-le-left}
 use native.Mathlib.Omega.{arith}
-use Rattle.refusal.specs.Outcome.{Outcome, answer, _>>=_, given}
+use Rattle.refusal.specs.Outcome.{Outcome, answer, _>>=_}
 use Rattle.refusal.specs.Exact.{Present, absent, found-there, Each, At}
 use Rattle.refusal.proofs.Laws.{bind-answer, passes, picks, leaves, absent-there, present-there}
 use Rattle.refusal.proofs.Each.{at-below, at-some}
 use Rattle.refusal.proofs.Rows.{bind-assoc}
-use Rattle.frame.specs.Offsets.{allowed, Allowed}
+use Rattle.frame.specs.Offsets.{Allowed}
 use Rattle.frame.proofs.Laws.{allowed-decides}
 use Rattle.header.specs.declared.Header.{Header}
 use Rattle.header.specs.Header.{section, frame-of}

@@ -28,7 +28,8 @@ use Rattle.debug_info.specs.Debug.{Debug}
 use Rattle.debug_info.specs.Rules.{Named}
 use Rattle.class_walk.specs.Methods.{Body, DataBelow}
 use Rattle.class_walk.specs.Classes.{ClassBelow}
-use Rattle.class_walk.specs.Rules.{TypesRule, BodyRule, MethodRule, DataBelowRule, ClassBelowRule}
+use Rattle.type_list.specs.Rules.{TypesBelowRule}
+use Rattle.class_walk.specs.Rules.{BodyRule, MethodRule, DataBelowRule, ClassBelowRule}
 use Rattle.whole_check.specs.File.{File}
 use Rattle.promises.specs.Reads.{Reads}
 use Rattle.promises.specs.Tables.{listed}
@@ -79,7 +80,7 @@ module _ (f : List ℕ) {r : File} (reads : Reads f r) where
   method-in : {n : ℕ} → n < r .header .methods .count → Method r n
   method-in p = let size = reads .methods .count in omega arith
 
-  types-in : {at : ℕ} {l : Option (List ℕ)} → TypesRule f (r .header) at l → All (Kind r) (listed l)
+  types-in : {at : ℕ} {l : Option (List ℕ)} → TypesBelowRule f (r .header) at l → All (Kind r) (listed l)
   types-in (absent e) k t m = all-none (Kind r) k t m
   types-in (found-there p rule) k t m = kind-in (rule .entries .each m .range)
 

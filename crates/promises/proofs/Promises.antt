@@ -3,7 +3,6 @@
 use Prim.Native.Nat.{ℕ}
 use mathlib.Core.Path.{_≡_, refl, subst}
 use mathlib.Core.List.{List}
-use Rattle.refusal.specs.Outcome.{answer}
 use Rattle.refusal.specs.Exact.{Exact, Sought}
 use Rattle.refusal.proofs.Exact.{same, exact-iff, accepted-iff}
 use Rattle.header.specs.declared.Header.{Header}

@@ -1,38 +1,36 @@
 -- On a file of which a reading is known, each reader of header, map, records, texts and type lists answers what the reading says.
 -- Assumes nothing.
-use Prim.Native.Nat.{ℕ, zero, suc, _+_, _*_, _<_, _≤_}
-use mathlib.Core.Path.{_≡_, refl, ap, sym, subst, _∙_}
-use mathlib.Core.Bool.{Bool, true, false, cond}
-use mathlib.Core.Option.{Option, none, some}
+use Prim.Native.Nat.{ℕ}
+use mathlib.Core.Path.{_≡_, refl, ap, sym, _∙_}
+use mathlib.Core.Option.{Option}
 use mathlib.Core.List.{List, []}
 use lib.ListN.{length}
 use lib.Dec.{ltb}
 use borrow.Author.Tests.{lt-ltb, le-ltb}
 use native.Mathlib.Omega.{arith}
 use Rattle.refusal.specs.Outcome.{Outcome, answer, refused, _>>=_, given}
-use Rattle.refusal.specs.Exact.{Present, absent, found-there, Each}
+use Rattle.refusal.specs.Exact.{absent, found-there, Each}
 use Rattle.refusal.proofs.Laws.{bind-answer, picks, leaves}
 use Rattle.refusal.proofs.Rows.{bind-assoc}
 use Rattle.header.specs.declared.Header.{Header}
 use Rattle.header.specs.Header.{headerAt, section, frame-of}
 use Rattle.header.proofs.Exactly.{header-exact}
-use Rattle.map_list.specs.declared.MapList.{MapList}
 use Rattle.map_list.specs.declared.Entry.{Entry}
-use Rattle.map_list.specs.Map.{Map, mapAt, keptAt, kept, entryNumber}
+use Rattle.map_list.specs.Map.{keptAt, kept, entryNumber}
 use Rattle.map_list.proofs.Exactly.{map-exact}
 use Rattle.text.specs.Text.{Text, extent}
-use Rattle.string_ids.specs.Strings.{stringOf, stringExtent}
+use Rattle.string_ids.specs.Strings.{stringOf}
 use Rattle.string_ids.proofs.Exactly.{string-of-exact}
 use Rattle.ids.specs.declared.Proto.{Proto}
 use Rattle.ids.specs.Records.{typeAt, protoAt, memberAt, handleAt}
 use Rattle.ids.proofs.Exactly.{type-exact, proto-exact, member-exact, handle-exact}
-use Rattle.type_list.specs.TypeList.{listAt, countAt, numberAt, entryNumber as listEntry}
-use Rattle.type_list.specs.Rules.{ListRule}
+use Rattle.type_list.specs.TypeList.{countAt, numberAt, entryNumber as listEntry}
+use Rattle.type_list.specs.Rules.{ListRule, TypesBelowRule}
+use Rattle.type_list.specs.Below.{list-judge, listCount}
 use Rattle.type_list.proofs.Exactly.{list-exact}
 use Rattle.class_ids.specs.declared.Class.{Class}
 use Rattle.class_ids.specs.Classes.{classAt}
 use Rattle.class_ids.proofs.Exactly.{class-exact}
-use Rattle.access_flags.specs.Flags.{written, content}
 use Rattle.value_bodies.specs.Bodies.{pick}
 use Rattle.value_bodies.proofs.Picks.{pick-none}
 use Rattle.table_readers.specs.Head.{signed-by, signatureOf, mapCount, mapEntryIn, mapEntry, handleCount}
@@ -41,29 +39,29 @@ use Rattle.table_readers.specs.Tables.{typeIn, typeName, protoIn, protoOf, fiel
 use Rattle.table_readers.specs.Lists as L
 use Rattle.table_readers.specs.Flags.{classFlags, contentOf, classContent}
 use Rattle.class_walk.specs.Classes.{ClassBelow}
-use Rattle.class_walk.specs.Rules.{TypesRule, ClassBelowRule}
+use Rattle.class_walk.specs.Rules.{ClassBelowRule}
 use Rattle.whole_check.specs.File.{ProtoBelow, File}
 use Rattle.promises.specs.Reads.{ProtoBelowRule, Reads}
 use Rattle.promises.specs.Tables.{listed, flags-left, TableReaders}
-use Rattle.promises.proofs.Asked.{made-same, asked, asked-part, asked-plain}
+use Rattle.promises.proofs.Asked.{made-same, asked, asked-plain}
 
 -- ---- lists of types
 module _ (f : List ℕ) (h : Header) where
-  counted : {at : ℕ} {l : Option (List ℕ)} → TypesRule f h at l → L.listCount f h at ≡ answer (length (listed l))
-  unfolding L.listCount countAt
-  counted {at} (absent e) = sym (leaves (countAt (section f h) (L.list-judge h at)) (le-ltb 0 at (omega arith)) refl)
-  counted {at} (found-there {a = l} p rule) = sym (picks (answer 0) (lt-ltb 0 at p) refl) ∙ bind-answer _ (list-exact (section f h) (L.list-judge h at) .complete l rule)
+  counted : {at : ℕ} {l : Option (List ℕ)} → TypesBelowRule f h at l → listCount f h at ≡ answer (length (listed l))
+  unfolding listCount countAt
+  counted {at} (absent e) = sym (leaves (countAt (section f h) (list-judge h at)) (le-ltb 0 at (omega arith)) refl)
+  counted {at} (found-there {a = l} p rule) = sym (picks (answer 0) (lt-ltb 0 at p) refl) ∙ bind-answer _ (list-exact (section f h) (list-judge h at) .complete l rule)
 
-  numbered : {at : ℕ} {l : Option (List ℕ)} → TypesRule f h at l → (k : ℕ) → L.listType f h at k ≡ pick k (listed l)
+  numbered : {at : ℕ} {l : Option (List ℕ)} → TypesBelowRule f h at l → (k : ℕ) → L.listType f h at k ≡ pick k (listed l)
   unfolding L.listType numberAt countAt
-  numbered {at} (absent e) k = sym (leaves (numberAt (section f h) (L.list-judge h at) k) (le-ltb 0 at (omega arith)) refl) ∙ sym (pick-none [] k (omega arith))
+  numbered {at} (absent e) k = sym (leaves (numberAt (section f h) (list-judge h at) k) (le-ltb 0 at (omega arith)) refl) ∙ sym (pick-none [] k (omega arith))
   numbered {at} (found-there {a = l} p rule) k =
-      let whole = list-exact (section f h) (L.list-judge h at) .complete l rule in
+      let whole = list-exact (section f h) (list-judge h at) .complete l rule in
       sym (picks _ (lt-ltb 0 at p) refl)
       ∙ bind-answer _ (bind-answer _ whole)
-      ∙ asked-plain (λ (n : ℕ). answer (listEntry (section f h) (L.list-judge h at) n)) (sized rule) (λ n a q. ap answer q) k
+      ∙ asked-plain (λ (n : ℕ). answer (listEntry (section f h) (list-judge h at) n)) (sized rule) (λ n a q. ap answer q) k
     where
-      sized : ListRule (section f h) (L.list-judge h at) l → Each (λ (n a : ℕ). listEntry (section f h) (L.list-judge h at) n ≡ a) (length l) l
+      sized : ListRule (section f h) (list-judge h at) l → Each (λ (n a : ℕ). listEntry (section f h) (list-judge h at) n ≡ a) (length l) l
       sized rule = record { count = refl; each = λ m. rule .entries .each m .stands }
 
 module _ (f : List ℕ) {r : File} (reads : Reads f r) where

@@ -1,7 +1,7 @@
 -- The reading of the whole file finds exactly what the rules allow.
 -- Assumes nothing.
 use Prim.Native.Nat.{ℕ}
-use mathlib.Core.Path.{_≡_, refl, subst}
+use mathlib.Core.Path.{refl, subst}
 use mathlib.Core.List.{List}
 use Rattle.refusal.specs.Exact.{Exact}
 use Rattle.refusal.proofs.Exact.{answer-exact, bind-exact, exact-iff}
@@ -9,21 +9,21 @@ use Rattle.refusal.proofs.Each.{every-exact}
 use Rattle.header.specs.declared.Header.{Header}
 use Rattle.header.specs.Header.{frame-of}
 use Rattle.header.proofs.Exactly.{header-exact}
-use Rattle.map_list.specs.Map.{Map}
 use Rattle.map_list.proofs.Exactly.{map-exact}
 use Rattle.string_ids.proofs.Exactly.{strings-exact}
 use Rattle.ids.specs.Rules.{MemberRule, HandleRule}
+use Rattle.type_list.proofs.Exactly.{types-below-exact}
 use Rattle.ids.proofs.Exactly.{types-exact, proto-exact, member-exact, handle-exact}
 use Rattle.class_walk.specs.Classes.{classBelow}
 use Rattle.class_walk.specs.Rules.{ClassBelowRule}
 use Rattle.class_walk.proofs.Exactly as C
-use Rattle.whole_check.specs.File.{File, protoBelow, fieldAt, methodAt, handleIn, tablesAt, fileAt}
+use Rattle.whole_check.specs.File.{protoBelow, fieldAt, methodAt, handleIn, tablesAt, fileAt}
 use Rattle.promises.specs.Reads.{ProtoBelowRule, Reads}
 
 pub proto-below-exact : (f : List ℕ) (h : Header) (n : ℕ) → Exact (protoBelow f h n) (ProtoBelowRule f h n)
 unfolding protoBelow
 proto-below-exact f h n =
-    exact-iff (bind-exact _ _ (proto-exact f (frame-of h 0) (h .protos .offset) (h .end) n) (λ p. bind-exact _ _ (C.types-exact f h (p .parameters)) (λ l. answer-exact _)))
+    exact-iff (bind-exact _ _ (proto-exact f (frame-of h 0) (h .protos .offset) (h .end) n) (λ p. bind-exact _ _ (types-below-exact f h (p .parameters)) (λ l. answer-exact _)))
     (λ b p. subst (ProtoBelowRule f h n) (p .1 .1 .1 .1) (record { own = p .1 .0; parameters = p .1 .1 .1 .0 }))
     (λ b p. (b .own, (p .own, (b .parameters, (p .parameters, refl)))))
 

@@ -7,6 +7,7 @@ use Rattle.header.specs.Header.{frame-of}
 use Rattle.header.specs.Rules.{HeaderRule}
 use Rattle.map_list.specs.Rules.{MapRule}
 use Rattle.string_ids.specs.Rules.{StringsRule}
+use Rattle.type_list.specs.Rules.{TypesBelowRule}
 use Rattle.ids.specs.Rules.{TypesRule, ProtoRule, MemberRule, HandleRule}
 use Rattle.class_walk.specs.Rules as W
 use Rattle.whole_check.specs.File.{ProtoBelow, File}
@@ -14,7 +15,7 @@ use Rattle.whole_check.specs.File.{ProtoBelow, File}
 -- proto n: its record, and the list of types that it leads to
 pub record ProtoBelowRule (f : List ℕ) (h : Header) (n : ℕ) (p : ProtoBelow) : Type 0 where
   pub own : ProtoRule f (frame-of h 0) (h .end) (h .protos .offset) n (p .own)
-  pub parameters : W.TypesRule f h (p .own .parameters) (p .parameters)
+  pub parameters : TypesBelowRule f h (p .own .parameters) (p .parameters)
 
 -- this file says r
 pub record Reads (f : List ℕ) (r : File) : Type 0 where

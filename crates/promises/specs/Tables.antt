@@ -9,16 +9,16 @@ use lib.ListN.{length}
 use Rattle.refusal.specs.Outcome.{Outcome, answer, refused, _>>=_}
 use Rattle.word.specs.Bytes.{stretch}
 use Rattle.header.specs.Header.{headerAt}
-use Rattle.text.specs.Text.{Text, extent}
+use Rattle.text.specs.Text.{extent}
 use Rattle.value_bodies.specs.Bodies.{pick}
 use Rattle.access_flags.specs.Flags.{written, content}
 use Rattle.table_readers.specs.Head.{signatureOf, mapCount, mapEntry, handleCount}
-use Rattle.table_readers.specs.Strings.{stringNumber, stringExtentOf, bytesOf}
+use Rattle.table_readers.specs.Strings.{stringNumber, stringExtentOf}
 use Rattle.table_readers.specs.Tables.{typeName, protoOf, fieldOf, methodOf, classOf, handleOf}
 use Rattle.table_readers.specs.Lists as L
 use Rattle.table_readers.specs.Flags.{classFlags, classContent}
 use Rattle.class_walk.specs.Classes.{ClassBelow}
-use Rattle.whole_check.specs.File.{ProtoBelow, File}
+use Rattle.whole_check.specs.File.{File}
 
 -- an absent list is empty
 abbrev pub listed : {A : Type 0} → Option (List A) → List A

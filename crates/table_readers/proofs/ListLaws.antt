@@ -5,23 +5,20 @@ use mathlib.Core.Path.{_≡_, ap, _∙_}
 use mathlib.Core.List.{List}
 use borrow.Author.Needs.{needs}
 use Rattle.refusal.specs.Outcome.{Outcome}
-use Rattle.refusal.proofs.Laws.{tests, calls}
+use Rattle.refusal.proofs.Laws.{tests}
 use Rattle.header.specs.declared.Header.{Header}
 use Rattle.header.specs.Header.{section}
 use Rattle.header.proofs.Laws.{laws as header-laws}
 use Rattle.ids.proofs.Laws.{laws as record-laws}
 use Rattle.class_ids.proofs.Laws.{laws as class-laws}
 use Rattle.type_list.specs.declared.Judge.{Judge}
-use Rattle.type_list.specs.TypeList.{countAt, numberAt}
+use Rattle.type_list.specs.TypeList.{numberAt}
 
 -- a list that was read in the file up to the data section's end, s
 module _ (f : List ℕ) (h : Header) (j : Judge) {s : List ℕ} (e : s ≡ section f h) where
-  pub count-in : {y : Outcome ℕ} → y ≡ countAt s j → y ≡ countAt (section f h) j
-  count-in q = q ∙ ap (λ (x : List ℕ). countAt x j) e
-
   pub number-in : (k : ℕ) {y : Outcome ℕ} → y ≡ numberAt s j k → y ≡ numberAt (section f h) j k
   number-in k q = q ∙ ap (λ (x : List ℕ). numberAt x j k) e
 
-pub ruleset list-laws = (count-in, number-in, tests, needs)
+pub ruleset list-laws = (number-in, tests, needs)
 
 pub ruleset laws = (header-laws, record-laws, class-laws, needs)

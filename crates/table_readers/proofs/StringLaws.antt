@@ -1,10 +1,10 @@
 -- What the proofs of the readers of strings cite.
 -- Assumes nothing.
-use Prim.Native.Nat.{ℕ, zero, suc, _+_, _≤_, _<_, min}
-use mathlib.Core.Path.{_≡_, refl, ap, sym, subst, _∙_}
+use Prim.Native.Nat.{ℕ, zero, suc, _+_, _≤_}
+use mathlib.Core.Path.{_≡_, refl, ap, sym, _∙_}
 use mathlib.Core.Bool.{Bool, true, false}
 use mathlib.Core.List.{List, [], _∷_}
-use lib.ListN.{length, take, getD, length-take}
+use lib.ListN.{length, take, length-take}
 use lib.Dec.{ltb}
 use lib.Seq.{getD-take}
 use borrow.Author.Needs.{needs}
@@ -12,8 +12,7 @@ use native.Mathlib.Omega.{arith}
 use native.Mathlib.Nat.{min-le-left, min-le-right}
 use Rattle.refusal.specs.declared.Refusal.{Refusal}
 use Rattle.refusal.specs.Outcome.{Outcome, answer, refused, _>>=_, given}
-use Rattle.refusal.specs.Exact.{Exact}
-use Rattle.refusal.proofs.Laws.{tests, calls}
+use Rattle.refusal.proofs.Laws.{tests}
 use Rattle.refusal.proofs.Exact.{never, answers-equal}
 use Rattle.refusal.proofs.Rows.{bind-assoc}
 use Rattle.word.specs.Bytes.{stretch, part}
@@ -26,7 +25,6 @@ use Rattle.text.specs.Answers.{text-outcome}
 use Rattle.text.specs.declared.TextAnswer.{TextAnswer}
 use Rattle.text.specs.declared.TextAnswer.the-variants as T
 use Rattle.string_ids.specs.Strings.{stringOf, stringExtent}
-use Rattle.string_ids.proofs.Exactly.{string-of-exact}
 use Rattle.table_readers.specs.Strings.{stringNumber, bytesOf, stringExtentOf, stringIn}
 use Rattle.table_readers.specs.Rules.{StringNumber}
 use Rattle.table_readers.proofs.Exactly.{string-number-exact}

@@ -5,7 +5,7 @@ use mathlib.Core.Path.{_≡_, ap, _∙_}
 use mathlib.Core.List.{List}
 use borrow.Author.Needs.{needs}
 use Rattle.refusal.specs.Outcome.{Outcome}
-use Rattle.refusal.proofs.Laws.{tests, calls}
+use Rattle.refusal.proofs.Laws.{tests}
 use Rattle.frame.specs.declared.Frame.{Frame}
 use Rattle.header.specs.declared.Header.{Header}
 use Rattle.header.specs.Header.{frame-of}

@@ -3,18 +3,12 @@ use Prim.Native.Nat.{ℕ}
 use mathlib.Core.Bool.{cond}
 use mathlib.Core.List.{List}
 use lib.Dec.{ltb}
-use Rattle.refusal.specs.Outcome.{Outcome, answer, refused, _>>=_}
+use Rattle.refusal.specs.Outcome.{Outcome, refused, _>>=_}
 use Rattle.header.specs.declared.Header.{Header}
 use Rattle.header.specs.Header.{headerAt, section}
-use Rattle.type_list.specs.declared.Judge.{Judge}
-use Rattle.type_list.specs.TypeList.{countAt, numberAt}
+use Rattle.type_list.specs.TypeList.{numberAt}
+use Rattle.type_list.specs.Below.{list-judge, listCount}
 use Rattle.table_readers.specs.Tables.{protoIn, classIn}
-
-abbrev pub list-judge : Header → ℕ → Judge
-list-judge h at = record { order = h .order; types = h .types .count; at = at }
-
-unfoldable pub listCount : List ℕ → Header → ℕ → Outcome ℕ
-listCount f h at = cond (ltb 0 at) (countAt (section f h) (list-judge h at)) (answer 0)
 
 unfoldable pub listType : List ℕ → Header → ℕ → ℕ → Outcome ℕ
 listType f h at k = cond (ltb 0 at) (numberAt (section f h) (list-judge h at) k) (refused (record { number = 7; place = 0 }))

@@ -19,7 +19,6 @@ pub use head::open;
 pub use head::signature;
 pub use lists::interface;
 pub use lists::interface_count;
-pub use lists::list_count;
 pub use lists::parameter;
 pub use lists::parameter_count;
 pub use strings::find_string;

@@ -9,26 +9,7 @@ use type_list::Judge;
 use type_list::TypeAnswer;
 ghost use mathlib.Core.Path.{_≡_};
 ghost use Rattle.type_list.specs.Answers.{count-outcome, type-outcome};
-ghost use Rattle.table_readers.specs.Lists.{listCount, listType, parametersIn, parameterCount, parameterIn, parameter, interfacesIn, interfaceCount, interfaceIn, interface};
-
-// How many types the list at an offset has, 0 where it is absent.
-pub fn list_count(f: &[u8], h: Header, at: u32) -> CountAnswer
-    ensures { λ r. ⌜ count-outcome r ≡ listCount (now (f .entry)) h at ⌝ }
-{
-    let order = h.order;
-    let types = h.types;
-    if 0 < at {
-        return type_list::count_at(
-            header::section_of(f, h),
-            Judge {
-                order,
-                types: types.count,
-                at: at as usize,
-            },
-        );
-    }
-    CountAnswer::Got(0)
-}
+ghost use Rattle.table_readers.specs.Lists.{listType, parametersIn, parameterCount, parameterIn, parameter, interfacesIn, interfaceCount, interfaceIn, interface};
 
 // Type k of the list at an offset.
 fn list_type(f: &[u8], h: Header, at: u32, k: u32) -> TypeAnswer
@@ -68,7 +49,7 @@ fn parameters_in(f: &[u8], h: Header, n: u32) -> CountAnswer
 {
     match super::tables::proto_in(f, h, n) {
         ProtoAnswer::Refused(r) => CountAnswer::Refused(r),
-        ProtoAnswer::Got(p) => list_count(f, h, p.parameters),
+        ProtoAnswer::Got(p) => type_list::list_count(f, h, p.parameters),
     }
 }
 
@@ -106,7 +87,7 @@ fn interfaces_in(f: &[u8], h: Header, n: u32) -> CountAnswer
 {
     match super::tables::class_in(f, h, n) {
         ClassAnswer::Refused(r) => CountAnswer::Refused(r),
-        ClassAnswer::Got(c) => list_count(f, h, c.interfaces),
+        ClassAnswer::Got(c) => type_list::list_count(f, h, c.interfaces),
     }
 }
 

@@ -1,19 +1,22 @@
 -- A type list's reading finds exactly what the rule allows.
 -- Assumes nothing.
-use Prim.Native.Nat.{ℕ, _+_, _*_, _≤_, _<_}
-use mathlib.Core.Path.{_≡_, refl, sym, subst, _∙_}
+use Prim.Native.Nat.{ℕ, _+_, _*_, _<_}
+use mathlib.Core.Path.{_≡_, refl, sym, subst}
 use mathlib.Core.List.{List}
 use lib.ListN.{length}
 use native.Mathlib.Omega.{arith}
 use Rattle.refusal.specs.Outcome.{answer}
 use Rattle.refusal.specs.Rows.{every}
 use Rattle.refusal.specs.Exact.{Exact, Each}
-use Rattle.refusal.proofs.Exact.{same, answer-exact, given-exact, exact-iff, below, at-most}
+use Rattle.refusal.proofs.Exact.{same, answer-exact, given-exact, exact-iff, present-exact, below, at-most}
 use Rattle.refusal.proofs.Each.{every-exact}
 use Rattle.word.specs.Words.{u32At}
 use Rattle.type_list.specs.declared.Judge.{Judge}
 use Rattle.type_list.specs.TypeList.{entryNumber, entryAt, listOf, listAt}
-use Rattle.type_list.specs.Rules.{Entry, ListRule}
+use Rattle.type_list.specs.Below.{list-judge, typesBelow}
+use Rattle.type_list.specs.Rules.{Entry, ListRule, TypesBelowRule}
+use Rattle.header.specs.declared.Header.{Header}
+use Rattle.header.specs.Header.{section}
 
 module _ (s : List ℕ) (j : Judge) where
   entry-exact : (k : ℕ) → Exact (entryAt s j k) (Entry s j k)
@@ -39,3 +42,8 @@ module _ (s : List ℕ) (j : Judge) where
 
   pub list-same : (a b : List ℕ) → ListRule s j a → ListRule s j b → a ≡ b
   list-same = same list-exact
+
+-- the list at an offset, or none
+pub types-below-exact : (f : List ℕ) (h : Header) (at : ℕ) → Exact (typesBelow f h at) (TypesBelowRule f h at)
+unfolding typesBelow
+types-below-exact f h at = present-exact at (list-exact (section f h) (list-judge h at))

@@ -1,28 +1,34 @@
 -- What the functions' proofs cite: an entry, the loop over all of them, and the stages of the list.
 -- Assumes nothing.
-use Prim.Native.Nat.{ℕ, _+_, _-_, _*_, _≤_, _<_}
-use mathlib.Core.Path.{_≡_, refl, ap, sym, subst, _∙_}
+use Prim.Native.Nat.{ℕ, zero, suc, _+_, _-_, _*_, _≤_, _<_}
+use mathlib.Core.Path.{_≡_, refl, ap, sym, _∙_}
+use mathlib.Core.Bool.{cond}
+use mathlib.Core.Logic.{_⊎_, inl, inr}
 use mathlib.Core.List.{List}
 use lib.ListN.{length}
-use lib.Dec.{ltb, leb}
+use lib.Dec.{ltb}
 use borrow.Author.Needs.{needs}
 use borrow.Author.Tests.{lt-ltb, le-ltb, le-leb, lt-leb}
 use native.Mathlib.Omega.{arith}
 use mir.Syntax.{w32}
 use mir.Val.{Fits}
-use Rattle.refusal.specs.declared.Refusal.{Refusal}
-use Rattle.refusal.specs.Outcome.{Outcome, answer, refused, _>>=_, given, accepted}
+use Rattle.refusal.specs.Outcome.{Outcome, answer, refused, _>>=_, present, accepted}
 use Rattle.refusal.specs.Rows.{every}
-use Rattle.refusal.proofs.Laws.{said, tests, calls, passes, fails, bind-answer, bind-refused}
+use Rattle.refusal.proofs.Laws.{said, tests, calls, passes, fails, picks, leaves, bind-answer, bind-refused}
+use Rattle.refusal.proofs.Kept.{made-kept, present-kept, absent-kept}
 use Rattle.refusal.proofs.Loops.{Numbers, numbers-first, numbers-next, numbers-stop, numbers-done}
-use Rattle.word.specs.Words.{u16At, u32At}
+use Rattle.word.specs.Words.{u32At}
 use Rattle.word.proofs.Laws.{u16-past}
 use Rattle.type_list.specs.declared.Judge.{Judge}
-use Rattle.type_list.specs.declared.Checked.{Checked}
+use Rattle.refusal.specs.declared.Checked.{Checked}
+use Rattle.refusal.specs.Answers.{checked-outcome}
+use Rattle.header.specs.declared.Header.{Header}
+use Rattle.header.specs.Header.{section}
 use Rattle.type_list.specs.declared.CountAnswer.{CountAnswer}
 use Rattle.type_list.specs.declared.TypeAnswer.{TypeAnswer}
 use Rattle.type_list.specs.TypeList.{entryNumber, entryAt, listOf, listAt, counted, countAt, allAt}
-use Rattle.type_list.specs.Answers.{checked-outcome, count-outcome, type-outcome}
+use Rattle.type_list.specs.Answers.{count-outcome, type-outcome}
+use Rattle.type_list.specs.Below.{list-judge, typesBelow, listCount}
 use Rattle.type_list.proofs.Exactly.{counted as counts}
 
 pub entry-past : (s : List ℕ) (j : Judge) (k : ℕ) → length s ≤ j .at → 0 ≡ entryNumber s j k
@@ -96,8 +102,31 @@ on-count = said count-outcome
 pub on-type : {B : Type 0} {x c : TypeAnswer} {o : Outcome ℕ} {y : Outcome B} (k : ℕ → Outcome B) → type-outcome x ≡ o → x ≡ c → y ≡ (type-outcome c >>= k) → y ≡ (o >>= k)
 on-type = said type-outcome
 
+-- a list that was read in the file up to the data section's end, s
+module _ (f : List ℕ) (h : Header) (j : Judge) {s : List ℕ} {y : Outcome ℕ} where
+  pub count-in : s ≡ section f h → y ≡ countAt s j → y ≡ countAt (section f h) j
+  count-in e q = q ∙ ap (λ (x : List ℕ). countAt x j) e
+
+-- ---- the list at an offset
+pub types-by : (f : List ℕ) (h : Header) (at : ℕ) {y : Outcome Unit} → y ≡ (listCount f h at >>= accepted) → y ≡ (typesBelow f h at >>= accepted)
+unfolding typesBelow listCount countAt
+types-by f h at e = e ∙ go (or-zero at)
+  where
+    or-zero : (n : ℕ) → (0 < n) ⊎ (n ≤ 0)
+    or-zero zero = inr (omega arith)
+    or-zero (suc n) = inl (omega arith)
+
+    go : (0 < at) ⊎ (at ≤ 0) → (cond (ltb 0 at) (countAt (section f h) (list-judge h at)) (answer 0) >>= accepted) ≡ (present at (listAt (section f h) (list-judge h at)) >>= accepted)
+    go (inl p) =
+        ap (λ (o : Outcome ℕ). o >>= accepted) (sym (picks (answer 0) (lt-ltb 0 at p) refl))
+        ∙ made-kept _ (listAt (section f h) (list-judge h at))
+        ∙ present-kept (listAt (section f h) (list-judge h at)) p refl
+    go (inr p) = ap (λ (o : Outcome ℕ). o >>= accepted) (sym (leaves (countAt (section f h) (list-judge h at)) (le-ltb 0 at p) refl)) ∙ bind-answer accepted refl ∙ absent-kept (listAt (section f h) (list-judge h at)) p
+
 pub ruleset going = (entry-past, going-first, going-fits, going-next, going-stop, going-done, needs)
 
 pub ruleset list-laws = (list-low, list-short, list-long, list-by, on-count, calls, tests, needs)
+
+pub ruleset below-laws = (count-in, types-by, on-count, calls, tests, needs)
 
 pub ruleset laws = (on-count, on-type)

@@ -1,13 +1,8 @@
 -- What the answers of the code say.
 use Prim.Native.Nat.{ℕ}
 use Rattle.refusal.specs.Outcome.{Outcome, answer, refused}
-use Rattle.type_list.specs.declared.Checked as K
 use Rattle.type_list.specs.declared.CountAnswer as C
 use Rattle.type_list.specs.declared.TypeAnswer as T
-
-abbrev pub checked-outcome : K.Checked → Outcome Unit
-checked-outcome K.the-variants.Accepted = answer tt
-checked-outcome (K.the-variants.Refused r) = refused r
 
 abbrev pub count-outcome : C.CountAnswer → Outcome ℕ
 count-outcome (C.the-variants.Got n) = answer n

@@ -1,3 +1,4 @@
 pub mod TypeList
+pub mod Below
 pub mod Rules
 pub mod Answers

@@ -1,22 +1,21 @@
 // Lists of types: the parameters of a proto and the interfaces of a class. `s` ends where the data section ends.
+use header::Header;
+use refusal::Checked;
 use refusal::Refusal;
 use word::Endian;
 ghost use mathlib.Core.Path.{_≡_};
 ghost use Prim.Native.Nat.{_+_, _*_, _≤_};
 ghost use lib.ListN.{length};
 ghost use Rattle.type_list.specs.TypeList.{entryNumber, allAt, countAt, numberAt};
-ghost use Rattle.type_list.specs.Answers.{checked-outcome, count-outcome, type-outcome};
+ghost use Rattle.type_list.specs.Below.{listCount, typesAccepted};
+ghost use Rattle.type_list.specs.Answers.{count-outcome, type-outcome};
+ghost use Rattle.refusal.specs.Answers.{checked-outcome};
 
 // What a list is read against: the byte order, how many types there are, and the list's own place.
 pub struct Judge {
     pub order: Endian,
     pub types: u32,
     pub at: usize,
-}
-
-pub enum Checked {
-    Accepted,
-    Refused(Refusal),
 }
 
 pub enum CountAnswer {
@@ -107,5 +106,34 @@ pub fn type_at(s: &[u8], j: Judge, k: u32) -> TypeAnswer
                 place: 0,
             })
         }
+    }
+}
+
+// How many types the list at an offset has, 0 where it is absent.
+pub fn list_count(f: &[u8], h: Header, at: u32) -> CountAnswer
+    ensures { λ r. ⌜ count-outcome r ≡ listCount (now (f .entry)) h at ⌝ }
+{
+    let order = h.order;
+    let types = h.types;
+    if 0 < at {
+        return count_at(
+            header::section_of(f, h),
+            Judge {
+                order,
+                types: types.count,
+                at: at as usize,
+            },
+        );
+    }
+    CountAnswer::Got(0)
+}
+
+// The list of types at an offset, if it is not absent.
+pub fn check_types(f: &[u8], h: Header, at: u32) -> Checked
+    ensures { λ r. ⌜ checked-outcome r ≡ typesAccepted (now (f .entry)) h at ⌝ }
+{
+    match list_count(f, h, at) {
+        CountAnswer::Refused(r) => Checked::Refused(r),
+        CountAnswer::Got(_) => Checked::Accepted,
     }
 }

@@ -28,6 +28,7 @@ use Rattle.ids.specs.declared.IndexAnswer.the-variants as I
 use Rattle.ids.specs.Answers.{index-outcome}
 use Rattle.ids.specs.Records.{typeAt, typesAt, protoAt}
 use Rattle.ids.proofs.Laws.{laws as id-laws}
+use Rattle.type_list.specs.Below.{typesBelow}
 use Rattle.class_walk.specs.Classes as W
 use Rattle.whole_check.specs.File.{ProtoBelow, protoBelow}
 use Rattle.whole_check.specs.Passes.{last-of, rising}
@@ -94,9 +95,9 @@ rises-first last string e = rw e
 -- ---- a proto with its parameters
 module _ (f : List ℕ) (h : Header) (n : ℕ) where
   pub proto-by : {r : Frame} {y : Outcome Unit} → r ≡ frame-of h 0
-      → y ≡ (protoAt f r (h .end) (h .protos .offset) n >>= λ (p : Proto). W.typesAt f h (p .parameters) >>= accepted) → y ≡ (protoBelow f h n >>= accepted)
+      → y ≡ (protoAt f r (h .end) (h .protos .offset) n >>= λ (p : Proto). typesBelow f h (p .parameters) >>= accepted) → y ≡ (protoBelow f h n >>= accepted)
   unfolding protoBelow _>>=_
-  proto-by {r} g e = e ∙ (λ i. protoAt f (g i) (h .end) (h .protos .offset) n >>= λ (p : Proto). W.typesAt f h (p .parameters) >>= accepted) ∙ go (protoAt f (frame-of h 0) (h .end) (h .protos .offset) n)
+  proto-by {r} g e = e ∙ (λ i. protoAt f (g i) (h .end) (h .protos .offset) n >>= λ (p : Proto). typesBelow f h (p .parameters) >>= accepted) ∙ go (protoAt f (frame-of h 0) (h .end) (h .protos .offset) n)
     where
       made : Proto → Option (List ℕ) → Outcome ProtoBelow
       made p l = answer (record { own = p; parameters = l })
@@ -105,9 +106,9 @@ module _ (f : List ℕ) (h : Header) (n : ℕ) where
       inner p (answer l) = refl
       inner p (refused r) = refl
 
-      go : (o : Outcome Proto) → (o >>= λ (p : Proto). W.typesAt f h (p .parameters) >>= accepted)
-          ≡ ((o >>= λ (p : Proto). W.typesAt f h (p .parameters) >>= made p) >>= accepted)
-      go (answer p) = inner p (W.typesAt f h (p .parameters))
+      go : (o : Outcome Proto) → (o >>= λ (p : Proto). typesBelow f h (p .parameters) >>= accepted)
+          ≡ ((o >>= λ (p : Proto). typesBelow f h (p .parameters) >>= made p) >>= accepted)
+      go (answer p) = inner p (typesBelow f h (p .parameters))
       go (refused r) = refl
 
 pub ruleset counting = (counting-first, counting-fits, counting-next, counting-stop, counting-done, needs)

@@ -13,6 +13,7 @@ use Rattle.ids.specs.declared.Proto.{Proto}
 use Rattle.ids.specs.declared.Member.{Member}
 use Rattle.ids.specs.declared.Handle.{Handle}
 use Rattle.ids.specs.Records.{typesAt, protoAt, memberAt, handleAt}
+use Rattle.type_list.specs.Below.{typesBelow}
 use Rattle.class_walk.specs.Classes as C
 
 -- a proto with its parameters
@@ -37,7 +38,7 @@ module _ (f : List ℕ) (h : Header) where
   unfoldable pub protoBelow : ℕ → Outcome ProtoBelow
   protoBelow n = do
     p ← protoAt f (frame-of h 0) (h .end) (h .protos .offset) n
-    l ← C.typesAt f h (p .parameters)
+    l ← typesBelow f h (p .parameters)
     answer (record { own = p; parameters = l })
 
   abbrev pub fieldAt : ℕ → Outcome Member

@@ -66,7 +66,7 @@ fn proto_pass(f: &[u8], h: Header, n: u32) -> Checked
     let t = h.protos;
     match ids::proto_at(f, header::frame_of(h, 0), h.end, t.offset, n) {
         ProtoAnswer::Refused(r) => Checked::Refused(r),
-        ProtoAnswer::Got(p) => class_walk::check_types(f, h, p.parameters),
+        ProtoAnswer::Got(p) => type_list::check_types(f, h, p.parameters),
     }
 }
 

@@ -4,7 +4,7 @@ use Rattle.table_readers.proofs.lists.interfaces_in.Statement.{statemen
 use Rattle.table_readers.proofs.lists.interfaces_in.Tie as tie
 use Rattle.table_readers.proofs.lists.interfaces_in.Reads as reads
 use Rattle.table_readers.proofs.lists.interfaces_in.Lts as lts
-use Rattle.table_readers.proofs.lists.list_count.Reads as list-count-reads
+use Rattle.type_list.proofs.list_count.Reads as list-count-reads
 use Rattle.table_readers.proofs.tables.class_in.Reads as class-in-reads
 
 class-in-requires : tie.Need-class-in-requires

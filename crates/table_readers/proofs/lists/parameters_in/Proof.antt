@@ -4,7 +4,7 @@ use Rattle.table_readers.proofs.lists.parameters_in.Statement.{statemen
 use Rattle.table_readers.proofs.lists.parameters_in.Tie as tie
 use Rattle.table_readers.proofs.lists.parameters_in.Reads as reads
 use Rattle.table_readers.proofs.lists.parameters_in.Lts as lts
-use Rattle.table_readers.proofs.lists.list_count.Reads as list-count-reads
+use Rattle.type_list.proofs.list_count.Reads as list-count-reads
 use Rattle.table_readers.proofs.tables.proto_in.Reads as proto-in-reads
 
 proto-in-requires : tie.Need-proto-in-requires

@@ -3,7 +3,7 @@ use Rattle.whole_check.proofs.tables.proto_pass.Statement.{statement}
 use Rattle.whole_check.proofs.tables.proto_pass.Tie as tie
 use Rattle.whole_check.proofs.tables.proto_pass.Reads as reads
 use Rattle.whole_check.proofs.tables.proto_pass.Lts as lts
-use Rattle.class_walk.proofs.check_types.Reads as check-types-reads
+use Rattle.type_list.proofs.check_types.Reads as check-types-reads
 use Rattle.header.proofs.frame_of.Reads as frame-of-reads
 use Rattle.ids.proofs.proto_at.Reads as proto-at-reads
 

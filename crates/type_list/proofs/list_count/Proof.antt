@@ -1,11 +1,11 @@
-use Rattle.table_readers.proofs.ListLaws.{list-laws as laws}
-use Rattle.table_readers.specs.Lists.{listCount}
-use Rattle.table_readers.proofs.lists.list_count.Statement.{statement}
-use Rattle.table_readers.proofs.lists.list_count.Tie as tie
-use Rattle.table_readers.proofs.lists.list_count.Reads as reads
-use Rattle.table_readers.proofs.lists.list_count.Lts as lts
+use Rattle.type_list.proofs.Laws.{below-laws as laws}
+use Rattle.type_list.specs.Below.{listCount}
+use Rattle.type_list.proofs.list_count.Statement.{statement}
+use Rattle.type_list.proofs.list_count.Tie as tie
+use Rattle.type_list.proofs.list_count.Reads as reads
+use Rattle.type_list.proofs.list_count.Lts as lts
 use Rattle.header.proofs.section_of.Reads as section-of-reads
 use Rattle.type_list.proofs.count_at.Reads as count-at-reads
 
 section-of-requires : tie.Need-section-of-requires
 section-of-requires c κs = search laws

@@ -1,9 +1,9 @@
-use Rattle.class_walk.proofs.Laws.{list-laws-of as laws}
-use Rattle.class_walk.proofs.check_types.Statement.{statement}
-use Rattle.class_walk.proofs.check_types.Tie as tie
-use Rattle.class_walk.proofs.check_types.Reads as reads
-use Rattle.class_walk.proofs.check_types.Lts as lts
-use Rattle.table_readers.proofs.list_count.Reads as list-count-reads
+use Rattle.type_list.proofs.Laws.{below-laws as laws}
+use Rattle.type_list.proofs.check_types.Statement.{statement}
+use Rattle.type_list.proofs.check_types.Tie as tie
+use Rattle.type_list.proofs.check_types.Reads as reads
+use Rattle.type_list.proofs.check_types.Lts as lts
+use Rattle.type_list.proofs.list_count.Reads as list-count-reads
 
 list-count-requires : tie.Need-list-count-requires
 list-count-requires c κs = search laws
