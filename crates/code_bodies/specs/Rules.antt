@@ -2,12 +2,10 @@
 use Prim.Native.Nat.{ℕ, _+_, _*_, _≤_, _<_}
 use mathlib.Core.Path.{_≡_}
 use mathlib.Core.Logic.{_⊎_}
-use mathlib.Core.Option.{some}
 use mathlib.Core.List.{List, []}
 use lib.ListN.{length}
-use Rattle.refusal.specs.Exact.{Row}
-use Rattle.refusal.specs.Seek.{position}
-use Rattle.word.specs.Words.{u16At}
+use Rattle.refusal.specs.Exact.{At, Each, Alike, Rising}
+use Rattle.word.specs.Words.{u16At, u32At}
 use Rattle.word.specs.declared.Endian.{Endian}
 use Rattle.frame.specs.declared.Frame.{Frame}
 use Rattle.handlers.specs.Handlers.{Handler}
@@ -16,31 +14,36 @@ use Rattle.code_units.specs.Units.{unitsAt}
 use Rattle.code_heads.specs.Heads.{bodySize}
 use Rattle.code_heads.specs.Rules.{HeadRule}
 use Rattle.code_bodies.specs.declared.Try.{Try}
-use Rattle.code_bodies.specs.Tries.{tryAt, Run, begin, isStart}
 use Rattle.code_bodies.specs.Code.{judge-of, Code}
 
--- a try within the instructions, at or after the previous try's end
-pub record TryRule (o : Endian) (s : List ℕ) (units : ℕ) (r : Run) (t : Try) (u : Run) : Type 0 where
-  pub bytes : tryAt o s (r .place) ≡ t
-  pub after : r .floor ≤ t .start
+-- a try's eight bytes stand at p: "A try lies within the instructions"
+pub record TryRule (o : Endian) (s : List ℕ) (units p : ℕ) (t : Try) : Type 0 where
+  pub start : u32At o s p ≡ t .start
+  pub count : u16At o s (p + 4) ≡ t .count
+  pub handler : u16At o s (p + 6) ≡ t .handler
   pub within : t .start + t .count ≤ units
-  pub place : r .place + 8 ≡ u .place
-  pub floor : t .start + t .count ≡ u .floor
 
--- a try's handler offset is the start of handler n
-pub record LinkRule (o : Endian) (s : List ℕ) (handlers : List Handler) (p n q : ℕ) : Type 0 where
-  pub starts : position (isStart (u16At o s (p + 6))) handlers ≡ some n
-  pub place : p + 8 ≡ q
+-- "starts at or after the previous try's end"
+abbrev pub EndsBefore : Try → Try → Type 0
+EndsBefore a b = a .start + a .count ≤ b .start
+
+-- "its handler offset is the start of a handler in the list": of handler number n
+pub record LinkRule (handlers : List Handler) (t : Try) (n : ℕ) : Type 0 where
+  pub handler : Handler
+  pub stands : At handlers n handler
+  pub starts : handler .offset ≡ t .handler
 
 pub record CodeRule (s : List ℕ) (f : Frame) (item : ℕ) (c : Code) : Type 0 where
-  pub run : Run
-  pub after-links : ℕ
   pub head : HeadRule s f item (c .head)
   pub room : item + (bodySize (c .head) + 8 * c .head .tries) ≤ length s
-  pub tries : Row (TryRule (f .order) s (c .head .units)) (c .head .tries) (begin (c .from)) (c .tries) run
+  -- as many tries as the head says, eight bytes each, in order
+  pub tries : Each (λ (k : ℕ) (t : Try). TryRule (f .order) s (c .head .units) (c .from + 8 * k) t) (c .head .tries) (c .tries)
+  pub in-order : Rising EndsBefore (c .tries)
+  -- "Without tries there is no handler list."
   pub handlers : ((0 < c .head .tries) × HandlersRule s (judge-of f item (c .head) (c .base)) (c .handlers))
       ⊎ ((0 < c .head .tries → ⊥) × (record { first = c .base; handlers = []; end = c .base } ≡ c .handlers))
-  pub links : Row (LinkRule (f .order) s (c .handlers .handlers)) (c .head .tries) (c .from) (c .links) after-links
+  -- beside each try the number of its handler
+  pub links : Alike (LinkRule (c .handlers .handlers)) (c .tries) (c .links)
   pub units : unitsAt (f .order) s (item + 16) (c .head .units) ≡ c .units
   pub from : item + bodySize (c .head) ≡ c .from
   pub base : item + (bodySize (c .head) + 8 * c .head .tries) ≡ c .base

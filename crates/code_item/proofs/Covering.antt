@@ -4,7 +4,7 @@ use Prim.Native.Nat.{ℕ, zero, suc, _+_, _-_, _*_, _<_, _≤_}
 use mathlib.Core.Path.{_≡_, refl, ap, sym, _∙_}
 use mathlib.Core.Bool.{Bool, true, false, cond, _&&_}
 use mathlib.Core.Option.{Option, none, some}
-use mathlib.Core.List.{List, _∷_}
+use mathlib.Core.List.{List, [], _∷_}
 use lib.ListN.{length}
 use lib.Dec.{ltb, leb}
 use borrow.Author.Needs.{needs}
@@ -13,9 +13,10 @@ use native.Mathlib.Omega.{arith}
 use Rattle.refusal.specs.declared.Refusal.{Refusal}
 use Rattle.refusal.specs.Outcome.{Outcome, answer, refused, _>>=_}
 use Rattle.refusal.specs.Seek.{position, later}
-use Rattle.refusal.specs.Exact.{Decides, Row, empty, first, At, here, there, Sought}
+use Rattle.refusal.specs.Exact.{Decides, At, here, there, Rising, Sought}
 use Rattle.refusal.proofs.Laws.{bind-answer}
 use Rattle.refusal.proofs.Exact.{never, answer-exact, bind-exact, below, at-most, both}
+use Rattle.refusal.proofs.Each.{rising-head, rising-tail}
 use Rattle.refusal.proofs.Seek.{position-sought}
 use Rattle.word.specs.Words.{u16At, u32At}
 use Rattle.word.specs.declared.Endian.{Endian}
@@ -25,11 +26,11 @@ use Rattle.code_heads.specs.declared.Head.{Head}
 use Rattle.code_bodies.specs.declared.Try.{Try}
 use Rattle.code_bodies.specs.declared.KeptAnswer.{KeptAnswer}
 use Rattle.code_bodies.specs.declared.KeptAnswer.the-variants as K
-use Rattle.code_bodies.specs.Tries.{tryAt, Run}
+use Rattle.code_bodies.specs.Tries.{tryAt}
 use Rattle.code_bodies.specs.Code.{Code, codeAt, Kept, kept, keptAt}
-use Rattle.code_bodies.specs.Rules.{TryRule, CodeRule}
+use Rattle.code_bodies.specs.Rules.{EndsBefore, CodeRule}
 use Rattle.code_bodies.specs.Answers.{kept-outcome}
-use Rattle.code_bodies.proofs.Exactly.{code-exact, code-lies}
+use Rattle.code_bodies.proofs.Exactly.{EachTry, tries-head, tries-tail, code-exact, code-lies}
 use Rattle.code_bodies.proofs.Stages.{from-number}
 use Rattle.code_item.specs.declared.Cover.{Cover}
 use Rattle.code_item.specs.Covering.{covers, triesFrom, coverAt}
@@ -99,10 +100,14 @@ module _ (start units address : ℕ) where
   cover-high h = rw (le-leb start address h)
 
 -- ---- the tries of an item that was read are those that lie there
-tries-are : (o : Endian) (s : List ℕ) (units : ℕ) {n : ℕ} {r u : Run} {l : List Try} → Row (TryRule o s units) n r l u → triesFrom o s (r .place) n ≡ l
+tries-are : (o : Endian) (s : List ℕ) (units : ℕ) (l : List Try) (n p : ℕ) → EachTry o s units p n l → triesFrom o s p n ≡ l
 unfolding triesFrom
-tries-are o s units empty = refl
-tries-are o s units (first {n = n} {l = l} {s = r} {t = v} h rest) = λ i. h .bytes i ∷ (ap (λ (p : ℕ). triesFrom o s p n) (h .place) ∙ tries-are o s units rest) i
+tries-are o s units [] zero p e = refl
+tries-are o s units [] (suc n) p e = absurd (let z = e .count in omega arith)
+tries-are o s units (t ∷ l) zero p e = absurd (let z = e .count in omega arith)
+tries-are o s units (t ∷ l) (suc n) p e =
+    let h = tries-head o s units p e in
+    λ i. record { start = h .start i; count = h .count i; handler = h .handler i } ∷ tries-are o s units l n (p + 8) (tries-tail o s units p e) i
 
 module _ (s : List ℕ) (f : Frame) (item address : ℕ) {x : KeptAnswer} (e : kept-outcome x ≡ keptAt s f item 0 0 0) where
   pub covering-refused : {r : Refusal} → x ≡ K.Refused r → refused r ≡ coveringOf s f item address
@@ -143,7 +148,7 @@ module _ (s : List ℕ) (f : Frame) (item address : ℕ) {x : KeptAnswer} (e : k
     covering-got v g =
         let c = behind in
         sym (bind-answer _ (code-exact s f item .complete (c .code) (c .rule))
-        ∙ ap (λ (ts : List Try). answer (position (covers address) ts)) (sym (tries-are (f .order) s (c .code .head .units) (c .rule .tries)) ∙ λ i. triesFrom (f .order) s (c .from-is i) (c .head-is i .tries))
+        ∙ ap (λ (ts : List Try). answer (position (covers address) ts)) (sym (tries-are (f .order) s (c .code .head .units) (c .code .tries) (c .code .head .tries) (c .code .from) (c .rule .tries)) ∙ λ i. triesFrom (f .order) s (c .from-is i) (c .head-is i .tries))
         ∙ ap answer (sym g))
 
 -- ---- at most one try covers an address
@@ -154,27 +159,25 @@ pub covers-decides : (address : ℕ) (t : Try) → Decides (covers address t) (C
 unfolding covers
 covers-decides address t = both (at-most (t .start) address) (below address (t .start + t .count))
 
-module _ (o : Endian) (s : List ℕ) (units : ℕ) where
-  floor-below : {n : ℕ} {r u : Run} {l : List Try} {k : ℕ} {t : Try} → Row (TryRule o s units) n r l u → At l k t → r .floor ≤ t .start
-  floor-below (first h r) here = h .after
-  floor-below (first h r) (there m) =
-      let rest = floor-below r m in
-      let a = h .after in
-      let b = h .floor in
-      omega arith
+ends-before : {a b : Try} {l : List Try} {k : ℕ} → Rising EndsBefore (a ∷ l) → At l k b → EndsBefore a b
+ends-before r here = rising-head r
+ends-before r (there m) =
+    let one = rising-head r in
+    let rest = ends-before (rising-tail r) m in
+    omega arith
 
-  pub covered-once : {n : ℕ} {r u : Run} {l : List Try} {i j : ℕ} {a b : Try} (x : ℕ) → Row (TryRule o s units) n r l u → At l i a → At l j b → Covers x a → Covers x b → i ≡ j
-  covered-once x (first h r) here here p q = refl
-  covered-once x (first h r) here (there m) p q = let z = floor-below r m in let e = h .floor in absurd (let y = p .1 in let w = q .0 in omega arith)
-  covered-once x (first h r) (there m) here p q = let z = floor-below r m in let e = h .floor in absurd (let y = q .1 in let w = p .0 in omega arith)
-  covered-once x (first h r) (there m) (there k) p q = ap suc (covered-once x r m k p q)
+covered-once : {l : List Try} {i j : ℕ} {a b : Try} (x : ℕ) → Rising EndsBefore l → At l i a → At l j b → Covers x a → Covers x b → i ≡ j
+covered-once x r here here p q = refl
+covered-once x r here (there m) p q = absurd (let z = ends-before r m in let y = p .1 in let w = q .0 in omega arith)
+covered-once x r (there m) here p q = absurd (let z = ends-before r m in let y = q .1 in let w = p .0 in omega arith)
+covered-once x r (there m) (there k) p q = ap suc (covered-once x (rising-tail r) m k p q)
 
 -- ---- what is answered is a try that covers the address, or none where no try does, and at most one does
 pub covering-sought : (c : Code) (address : ℕ) → Sought (Covers address) (c .tries) (position (covers address) (c .tries))
 covering-sought c address = position-sought (covers address) (covers-decides address) (c .tries)
 
 pub covering-once : (s : List ℕ) (f : Frame) (item : ℕ) (c : Code) → CodeRule s f item c → (address i j : ℕ) (a b : Try) → At (c .tries) i a → At (c .tries) j b → Covers address a → Covers address b → i ≡ j
-covering-once s f item c h address i j a b m n p q = covered-once (f .order) s (c .head .units) address (h .tries) m n p q
+covering-once s f item c h address i j a b m n p q = covered-once address (h .in-order) m n p q
 
 pub ruleset cover-laws = (looking-first, looking-room, looking-found, looking-next, looking-none, cover-low, cover-high, needs)
 

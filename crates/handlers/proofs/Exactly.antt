@@ -1,17 +1,18 @@
--- The reading of a handler list finds exactly what the rule allows.
+-- The reading of a handler list finds exactly what the rule allows, and in such a list no two handlers start at one offset.
 -- Assumes nothing.
 use Prim.Native.Nat.{ℕ, _<_, _≤_}
 use mathlib.Core.Path.{_≡_, refl, subst}
 use mathlib.Core.Bool.{Bool, true, false, cond}
 use mathlib.Core.Option.{Option, none, some}
-use mathlib.Core.List.{List}
+use mathlib.Core.List.{List, _∷_}
 use lib.ListN.{length}
 use native.Mathlib.Omega.{arith}
 use Rattle.refusal.specs.Outcome.{answer, _>>=_}
 use Rattle.refusal.specs.Rows.{Found}
-use Rattle.refusal.specs.Exact.{Exact, Row, empty, first}
+use Rattle.refusal.specs.Exact.{Exact, Row, empty, first, At, Rising, Strict}
 use Rattle.refusal.proofs.Exact.{same, answer-exact, given-exact, bind-exact, exact-iff, below}
 use Rattle.refusal.proofs.Rows.{collect-exact}
+use Rattle.refusal.proofs.Each.{at-below, rising-one, rising-cons, rising-apart}
 use Rattle.leb128.specs.Rules.{Uleb}
 use Rattle.leb128.proofs.Exactly.{uleb-exact, sleb-exact}
 use Rattle.leb128.proofs.Laws.{uleb-span, sleb-span}
@@ -20,6 +21,12 @@ use Rattle.handlers.specs.declared.Pair.{Pair}
 use Rattle.handlers.specs.declared.Judge.{Judge}
 use Rattle.handlers.specs.Handlers.{catches, addressAt, pairAt, catchAt, Handler, handlerAt, HandlerList, handlersAt}
 use Rattle.handlers.specs.Rules.{AddressRule, PairRule, CatchRule, HandlerRule, HandlersRule}
+
+abbrev pub StartsBefore : Handler → Handler → Type 0
+StartsBefore a b = a .offset < b .offset
+
+starts-strict : Strict StartsBefore
+starts-strict = record { never = λ p. omega arith; onward = λ p q. omega arith }
 
 module _ (s : List ℕ) (j : Judge) where
   address-exact : (p : ℕ) → Exact (addressAt s j p) (λ (r : Found ℕ ℕ). AddressRule s j p (r .item) (r .next))
@@ -133,3 +140,22 @@ module _ (s : List ℕ) (j : Judge) where
       let a = uleb-on (h .stored) in
       let b = handlers-on (h .handlers) (a .1) in
       record { first-after = a .0; end-after = b .0; inside = b .1 }
+
+  -- ---- handlers start at rising places, so that no two of them start at one
+  start-before : {n p t q : ℕ} {a : Handler} {l : List Handler} → HandlerRule s j p a t → j .base ≤ p → Row (HandlerRule s j) n t l q → Rising StartsBefore l → Rising StartsBefore (a ∷ l)
+  start-before h i empty rest = rising-one
+  start-before h i (first g r) rest =
+      let longer = handler-on h .0 in
+      let own = h .offset in
+      let next = g .offset in
+      rising-cons (omega arith) rest
+
+  row-starts : {n p q : ℕ} {l : List Handler} → Row (HandlerRule s j) n p l q → j .base ≤ p → Rising StartsBefore l
+  row-starts empty i = record { rises = λ m n. absurd (let z = at-below n in omega arith) }
+  row-starts (first h r) i = start-before h i r (row-starts r (let longer = handler-on h .0 in omega arith))
+
+  pub handlers-rise : (l : HandlerList) → HandlersRule s j l → Rising StartsBefore (l .handlers)
+  handlers-rise l h = row-starts (h .handlers) (let z = uleb-on (h .stored) .0 in omega arith)
+
+  pub handlers-apart : (l : HandlerList) → HandlersRule s j l → (m n : ℕ) (a b : Handler) → At (l .handlers) m a → At (l .handlers) n b → a .offset ≡ b .offset → m ≡ n
+  handlers-apart l h m n a b x y e = rising-apart starts-strict (handlers-rise l h) x y (λ p. omega arith) (λ p. omega arith)

@@ -15,7 +15,6 @@ use Rattle.refusal.proofs.Laws.{bind-answer, leaves, absent-there, present-ther
 use Rattle.refusal.proofs.Exact.{answer-exact, exact-iff}
 use Rattle.refusal.proofs.Seek.{sought-same}
 use Rattle.refusal.proofs.Rows.{bind-assoc}
-use Rattle.refusal.proofs.Choose.{row-length}
 use Rattle.header.specs.declared.Header.{Header}
 use Rattle.header.specs.Header.{headerAt, section, frame-of}
 use Rattle.frame.specs.declared.Frame.{Frame}
@@ -33,7 +32,7 @@ use Rattle.code_item.specs.Covering.{covers}
 use Rattle.code_bodies.specs.Code.{Code, codeAt}
 use Rattle.code_item.specs.Code.{outlineAt, coveringOf, tryOf, handed, handlerOf, pairOf}
 use Rattle.code_bodies.specs.Rules.{CodeRule}
-use Rattle.code_bodies.proofs.Exactly.{code-exact}
+use Rattle.code_bodies.proofs.Exactly.{code-exact, links-counted}
 use Rattle.code_item.proofs.Covering.{covering-sought, covering-once}
 use Rattle.debug_info.specs.Debug.{Debug, extentAt as debugExtent, nameOf}
 use Rattle.debug_info.specs.Rules.{DebugRule}
@@ -151,8 +150,8 @@ module _ (s : List ℕ) (f : Frame) (at : ℕ) (x : Code) (rule : CodeRule s f a
   try-in t =
       coded _
       ∙ sym (tested-twice (ltb t (x .head .tries)) _)
-      ∙ number-part (x .tries) (x .head .tries) (row-length (rule .tries)) t no-try (λ (a : Try). given (ltb t (x .head .tries)) 7 0 (answer (record { attempt = a; number = getD (x .links) t 0 })))
-      ∙ λ i. pick t (x .tries) >>= λ (a : Try). number-part (x .links) (x .head .tries) (row-length (rule .links)) t 0 (λ (n : ℕ). answer (record { attempt = a; number = n })) i
+      ∙ number-part (x .tries) (x .head .tries) (rule .tries .count) t no-try (λ (a : Try). given (ltb t (x .head .tries)) 7 0 (answer (record { attempt = a; number = getD (x .links) t 0 })))
+      ∙ λ i. pick t (x .tries) >>= λ (a : Try). number-part (x .links) (x .head .tries) (links-counted s f at x rule) t 0 (λ (n : ℕ). answer (record { attempt = a; number = n })) i
 
   handler-in : (h : ℕ) → handlerOf s f at h ≡ (pick h (x .handlers .handlers) >>= λ (y : Handler). answer (handed y))
   unfolding handlerOf
