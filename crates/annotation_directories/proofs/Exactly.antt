@@ -13,16 +13,16 @@ use Rattle.word.specs.Words.{u32At}
 use Rattle.frame.specs.declared.Frame.{Frame}
 use Rattle.frame.specs.Offsets.{Allowed, AllowedOrAbsent}
 use Rattle.frame.proofs.Laws.{allowed-decides, or-absent-decides}
-use Rattle.annotation_directories.specs.declared.Head.{Head}
+use Rattle.annotation_directories.specs.declared.DirectoryHead.{DirectoryHead}
 use Rattle.annotation_lists.specs.Fixed.{Fixed}
-use Rattle.annotation_directories.specs.Directories.{Entry, Directory, countsAt, headAt, entryOf, entryAt, listAt, listsAt, directoryAt}
-use Rattle.annotation_directories.specs.Rules.{HeadRule, EntryRule, DirectoryRule}
+use Rattle.annotation_directories.specs.Directories.{DirectoryEntry, Directory, countsAt, headAt, entryOf, entryAt, listAt, listsAt, directoryAt}
+use Rattle.annotation_directories.specs.Rules.{DirectoryHeadRule, DirectoryEntryRule, DirectoryRule}
 use Rattle.annotation_lists.proofs.Fixed.{fixed-exact}
 use Rattle.annotation_lists.proofs.Exactly.{Stands, word-exact}
 
 module _ (s : List ℕ) (f : Frame) (item : ℕ) where
   -- what the three counts say
-  abbrev Counts : ℕ → Head → Type 0
+  abbrev Counts : ℕ → DirectoryHead → Type 0
   Counts set h =
       (x : ℕ) × (Stands s f (item + 4) x
       × ((y : ℕ) × (Stands s f (item + 8) y
@@ -36,13 +36,13 @@ module _ (s : List ℕ) (f : Frame) (item : ℕ) where
       bind-exact _ _ (word-exact s f item (item + 8)) (λ y.
       bind-exact _ _ (word-exact s f item (item + 12)) (λ z. answer-exact (record { set = set; fields = x; methods = y; parameters = z }))))
 
-  Raw : ℕ → Head → Type 0
+  Raw : ℕ → DirectoryHead → Type 0
   Raw set h = Stands s f item set × (AllowedOrAbsent (f .start) (length s) true set × Counts set h)
 
-  pub head-exact : Exact (headAt s f item) (HeadRule s f item)
+  pub head-exact : Exact (headAt s f item) (DirectoryHeadRule s f item)
   unfolding headAt Raw
   head-exact =
-      exact-iff (bind-exact (Stands s f item) (λ (set : ℕ) (h : Head). AllowedOrAbsent (f .start) (length s) true set × Counts set h) (word-exact s f item item)
+      exact-iff (bind-exact (Stands s f item) (λ (set : ℕ) (h : DirectoryHead). AllowedOrAbsent (f .start) (length s) true set × Counts set h) (word-exact s f item item)
       (λ set. given-exact 8 item (or-absent-decides (f .start) (length s) true set) (counts-exact set)))
       (λ h p. there (p .0) h (p .1))
       (λ h p. (
@@ -68,8 +68,8 @@ module _ (s : List ℕ) (f : Frame) (item : ℕ) where
         ),
       ))
     where
-      there : (set : ℕ) (h : Head) → Raw set h → HeadRule s f item h
-      there set h p = subst (HeadRule s f item) (p .1 .1 .1 .1 .1 .1 .1 .1)
+      there : (set : ℕ) (h : DirectoryHead) → Raw set h → DirectoryHeadRule s f item h
+      there set h p = subst (DirectoryHeadRule s f item) (p .1 .1 .1 .1 .1 .1 .1 .1)
           (record {
             room = let z = p .1 .1 .1 .1 .1 .1 .1 .0 .0 in omega arith;
             set = p .0 .1;
@@ -79,37 +79,37 @@ module _ (s : List ℕ) (f : Frame) (item : ℕ) where
             parameters = p .1 .1 .1 .1 .1 .1 .1 .0 .1;
           })
 
-  pub entry-exact : (limit p : ℕ) → Exact (entryAt s f item limit p) (EntryRule s f item limit p)
+  pub entry-exact : (limit p : ℕ) → Exact (entryAt s f item limit p) (DirectoryEntryRule s f item limit p)
   unfolding entryAt entryOf
   entry-exact limit p =
       let i = u32At (f .order) s p in
       let o = u32At (f .order) s (p + 4) in
       exact-iff (given-exact 11 item (below i limit) (given-exact 8 item (allowed-decides (f .start) (length s) true o) (answer-exact (record { index = i; offset = o }))))
-      (λ e h. subst (EntryRule s f item limit p) (h .1 .1) (record { index = refl; offset = refl; below = h .0; allows = h .1 .0 }))
+      (λ e h. subst (DirectoryEntryRule s f item limit p) (h .1 .1) (record { index = refl; offset = refl; below = h .0; allows = h .1 .0 }))
       (λ e h. (
         subst (λ (x : ℕ). x < limit) (sym (h .index)) (h .below),
         (subst (Allowed (f .start) (length s) true) (sym (h .offset)) (h .allows), λ i. record { index = h .index i; offset = h .offset i }),
       ))
 
-  abbrev List-rule : ℕ → ℕ → ℕ → List Entry → Type 0
-  List-rule limit from count l = Fixed s (EntryRule s f item limit) 8 from count l
+  abbrev List-rule : ℕ → ℕ → ℕ → List DirectoryEntry → Type 0
+  List-rule limit from count l = Fixed s (DirectoryEntryRule s f item limit) 8 from count l
 
-  list-exact : (limit from count : ℕ) → Exact (listAt s f item limit from count) (λ (r : Found (List Entry) ℕ). List-rule limit from count (r .item) × (from + 8 * count ≡ r .next))
+  list-exact : (limit from count : ℕ) → Exact (listAt s f item limit from count) (λ (r : Found (List DirectoryEntry) ℕ). List-rule limit from count (r .item) × (from + 8 * count ≡ r .next))
   unfolding listAt
   list-exact limit from count =
-      exact-iff (bind-exact (List-rule limit from count) (λ (l : List Entry) (r : Found (List Entry) ℕ). record { item = l; next = from + 8 * count } ≡ r)
-      (fixed-exact (entryAt s f item limit) 8 from count (EntryRule s f item limit) (entry-exact limit) s item) (λ l. answer-exact _))
-      (λ r h. subst (λ (x : Found (List Entry) ℕ). List-rule limit from count (x .item) × (from + 8 * count ≡ x .next)) (h .1 .1) (h .1 .0, refl))
+      exact-iff (bind-exact (List-rule limit from count) (λ (l : List DirectoryEntry) (r : Found (List DirectoryEntry) ℕ). record { item = l; next = from + 8 * count } ≡ r)
+      (fixed-exact (entryAt s f item limit) 8 from count (DirectoryEntryRule s f item limit) (entry-exact limit) s item) (λ l. answer-exact _))
+      (λ r h. subst (λ (x : Found (List DirectoryEntry) ℕ). List-rule limit from count (x .item) × (from + 8 * count ≡ x .next)) (h .1 .1) (h .1 .0, refl))
       (λ r h. (r .item, (h .0, λ i. record { item = r .item; next = h .1 i })))
 
   -- the three lists of a directory with this head
-  pub record Lists (h : Head) (d : Directory) : Type 0 where
+  pub record Lists (h : DirectoryHead) (d : Directory) : Type 0 where
     pub head : h ≡ d .head
     pub fields : List-rule (f .fields) (item + 16) (h .fields) (d .fields)
     pub methods : List-rule (f .methods) (item + 16 + 8 * h .fields) (h .methods) (d .methods)
     pub parameters : List-rule (f .methods) (item + 16 + 8 * h .fields + 8 * h .methods) (h .parameters) (d .parameters)
 
-  pub lists-exact : (h : Head) → Exact (listsAt s f item h) (Lists h)
+  pub lists-exact : (h : DirectoryHead) → Exact (listsAt s f item h) (Lists h)
   unfolding listsAt
   lists-exact h =
       exact-iff
@@ -148,13 +148,13 @@ module _ (s : List ℕ) (f : Frame) (item : ℕ) where
   pub directory-exact : Exact (directoryAt s f item) (DirectoryRule s f item)
   unfolding directoryAt
   directory-exact =
-      exact-iff (bind-exact (HeadRule s f item) Lists head-exact lists-exact)
+      exact-iff (bind-exact (DirectoryHeadRule s f item) Lists head-exact lists-exact)
       (λ d p. there (p .0) d (p .1 .0) (p .1 .1))
       (λ d p. (d .head, (p .head, record { head = refl; fields = p .fields; methods = p .methods; parameters = p .parameters })))
     where
-      there : (h : Head) (d : Directory) → HeadRule s f item h → Lists h d → DirectoryRule s f item d
+      there : (h : DirectoryHead) (d : Directory) → DirectoryHeadRule s f item h → Lists h d → DirectoryRule s f item d
       there h d r l =
-          let at = subst (λ (g : Head). HeadRule s f item g × Lists g d) (l .head) (r, l) in
+          let at = subst (λ (g : DirectoryHead). DirectoryHeadRule s f item g × Lists g d) (l .head) (r, l) in
           record { head = at .0; fields = at .1 .fields; methods = at .1 .methods; parameters = at .1 .parameters }
 
   pub directory-same : (a b : Directory) → DirectoryRule s f item a → DirectoryRule s f item b → a ≡ b

@@ -9,7 +9,7 @@ use Rattle.refusal.specs.Exact.{At}
 use Rattle.refusal.proofs.Laws.{bind-answer}
 use Rattle.frame.specs.declared.Frame.{Frame}
 use Rattle.value_bodies.proofs.Picks.{pick-there, pick-none}
-use Rattle.annotation_directories.specs.Directories.{Entry, Directory, directoryHead, listOf, directoryEntry}
+use Rattle.annotation_directories.specs.Directories.{DirectoryEntry, Directory, directoryHead, listOf, directoryEntry}
 use Rattle.annotation_directories.specs.Rules.{DirectoryRule}
 use Rattle.annotation_directories.proofs.Exactly.{directory-exact}
 
@@ -19,7 +19,7 @@ module _ (s : List ℕ) (f : Frame) (item : ℕ) (d : Directory) (h : DirectoryR
   unfolding directoryHead
   directory-counted = bind-answer _ (directory-exact s f item .complete d h)
 
-  pub entries-kth : (list k : ℕ) (e : Entry) → At (listOf d list) k e → directoryEntry s f item list k ≡ answer e
+  pub entries-kth : (list k : ℕ) (e : DirectoryEntry) → At (listOf d list) k e → directoryEntry s f item list k ≡ answer e
   unfolding directoryEntry
   entries-kth list k e m = bind-answer _ (directory-exact s f item .complete d h) ∙ pick-there m
 

@@ -24,28 +24,28 @@ use Rattle.encoded_value.proofs.Leaves.{on-step}
 use Rattle.value_bodies.proofs.Picks.{pick-none}
 use Rattle.annotation_lists.specs.Fixed.{entriesFrom, fixedAt, Fixed}
 use Rattle.annotation_lists.specs.Offsets.{wordAt}
-use Rattle.annotation_directories.specs.Directories.{Entry, Directory, headAt, entryOf, entryAt, listAt, entriesPass, listPast, listsAt, listsPass, directoryAt, directoryHead, listOf, directoryEntry, countOf, beforeOf, limitOf}
-use Rattle.annotation_directories.specs.Rules.{EntryRule, DirectoryRule}
-use Rattle.annotation_directories.specs.declared.Head.{Head}
-use Rattle.refusal.specs.declared.Checked.{Checked}
-use Rattle.refusal.specs.declared.Checked.the-variants as C
-use Rattle.annotation_lists.specs.declared.Word.{Word}
-use Rattle.annotation_lists.specs.declared.Word.the-variants as W
-use Rattle.annotation_directories.specs.declared.HeadAnswer.{HeadAnswer}
-use Rattle.annotation_directories.specs.declared.HeadAnswer.the-variants as H
-use Rattle.annotation_directories.specs.declared.EntryAnswer.{EntryAnswer}
-use Rattle.annotation_directories.specs.declared.EntryAnswer.the-variants as E
+use Rattle.annotation_directories.specs.Directories.{DirectoryEntry, Directory, headAt, entryOf, entryAt, listAt, entriesPass, listPast, listsAt, listsPass, directoryAt, directoryHead, listOf, directoryEntry, countOf, beforeOf, limitOf}
+use Rattle.annotation_directories.specs.Rules.{DirectoryEntryRule, DirectoryRule}
+use Rattle.annotation_directories.specs.declared.DirectoryHead.{DirectoryHead}
+use Rattle.refusal.specs.declared.CheckAnswer.{CheckAnswer}
+use Rattle.refusal.specs.declared.CheckAnswer.the-variants as C
+use Rattle.annotation_lists.specs.declared.WordAnswer.{WordAnswer}
+use Rattle.annotation_lists.specs.declared.WordAnswer.the-variants as W
+use Rattle.annotation_directories.specs.declared.DirectoryHeadAnswer.{DirectoryHeadAnswer}
+use Rattle.annotation_directories.specs.declared.DirectoryHeadAnswer.the-variants as H
+use Rattle.annotation_directories.specs.declared.DirectoryEntryAnswer.{DirectoryEntryAnswer}
+use Rattle.annotation_directories.specs.declared.DirectoryEntryAnswer.the-variants as E
 use Rattle.annotation_lists.specs.Answers.{word-outcome}
-use Rattle.annotation_directories.specs.Answers.{entry-outcome, head-outcome}
+use Rattle.annotation_directories.specs.Answers.{directory-entry-outcome, directory-head-outcome}
 use Rattle.annotation_lists.proofs.Fixed.{Along, along-first, along-next, along-stop, along-done, along-eight, fixed-kth}
 use Rattle.annotation_directories.proofs.Exactly.{head-exact, entry-exact, lists-exact, directory-exact}
 use Rattle.annotation_lists.proofs.Laws.{on-word, word-inside}
 
-pub on-head : {B : Type 0} {x c : HeadAnswer} {o : Outcome Head} {y : Outcome B} (k : Head → Outcome B) → head-outcome x ≡ o → x ≡ c → y ≡ (head-outcome c >>= k) → y ≡ (o >>= k)
-on-head = said head-outcome
+pub on-head : {B : Type 0} {x c : DirectoryHeadAnswer} {o : Outcome DirectoryHead} {y : Outcome B} (k : DirectoryHead → Outcome B) → directory-head-outcome x ≡ o → x ≡ c → y ≡ (directory-head-outcome c >>= k) → y ≡ (o >>= k)
+on-head = said directory-head-outcome
 
 -- ---- the head
-module _ (s : List ℕ) (f : Frame) (item : ℕ) {x : Word} {v : ℕ} where
+module _ (s : List ℕ) (f : Frame) (item : ℕ) {x : WordAnswer} {v : ℕ} where
   pub after-eight : word-outcome x ≡ wordAt s f item (item + 4) → x ≡ W.Got v → Fits w64 (length s) → Fits w64 (item + 8)
   after-eight e t h = let z = word-inside s f item (item + 4) e t in omega arith
 
@@ -58,11 +58,11 @@ four-fits s item h z = omega arith
 pub sixteen-fits : (s : List ℕ) (item : ℕ) → item + 16 ≤ length s → Fits w64 (length s) → Fits w64 (item + 16)
 sixteen-fits s item h z = omega arith
 
-pub head-inside : (s : List ℕ) (f : Frame) (item : ℕ) {x : HeadAnswer} {h : Head} → head-outcome x ≡ headAt s f item → x ≡ H.Got h → item + 16 ≤ length s
-head-inside s f item {h = h} e t = head-exact s f item .sound h (sym e ∙ ap head-outcome t) .room
+pub head-inside : (s : List ℕ) (f : Frame) (item : ℕ) {x : DirectoryHeadAnswer} {h : DirectoryHead} → directory-head-outcome x ≡ headAt s f item → x ≡ H.Got h → item + 16 ≤ length s
+head-inside s f item {h = h} e t = head-exact s f item .sound h (sym e ∙ ap directory-head-outcome t) .room
 
 -- ---- an entry, and the loop over entries
-pub entry-by : (s : List ℕ) (f : Frame) (item limit p : ℕ) {i o : ℕ} {y : Outcome Entry} → i ≡ u32At (f .order) s p → o ≡ u32At (f .order) s (p + 4)
+pub entry-by : (s : List ℕ) (f : Frame) (item limit p : ℕ) {i o : ℕ} {y : Outcome DirectoryEntry} → i ≡ u32At (f .order) s p → o ≡ u32At (f .order) s (p + 4)
     → y ≡ entryOf s f item limit i o → y ≡ entryAt s f item limit p
 unfolding entryAt
 entry-by s f item limit p a b h = rw (← a, ← b) h
@@ -70,12 +70,12 @@ entry-by s f item limit p a b h = rw (← a, ← b) h
 pub eight-fits : (s : List ℕ) (p : ℕ) → p + 8 ≤ length s → Fits w64 (length s) → Fits w64 (p + 4)
 eight-fits s p h z = omega arith
 
-module _ {entry : ℕ → Outcome Entry} {s : List ℕ} {width from count left at : ℕ} (h : Along entry s width from count left at) {x : EntryAnswer} (l : 0 < left) (e : entry-outcome x ≡ entry at) where
+module _ {entry : ℕ → Outcome DirectoryEntry} {s : List ℕ} {width from count left at : ℕ} (h : Along entry s width from count left at) {x : DirectoryEntryAnswer} (l : 0 < left) (e : directory-entry-outcome x ≡ entry at) where
   pub entry-next : {i o : ℕ} → x ≡ E.Got i o → Along entry s width from count (left - 1) (at + width)
-  entry-next t = along-next h l (sym (ap entry-outcome t) ∙ e)
+  entry-next t = along-next h l (sym (ap directory-entry-outcome t) ∙ e)
 
-  pub entry-stop : {B : Type 0} {r : Refusal} (f : List Entry → Outcome B) → x ≡ E.Refused r → refused r ≡ (entriesFrom entry width from count >>= f)
-  entry-stop f t = along-stop h f l (sym (ap entry-outcome t) ∙ e)
+  pub entry-stop : {B : Type 0} {r : Refusal} (f : List DirectoryEntry → Outcome B) → x ≡ E.Refused r → refused r ≡ (entriesFrom entry width from count >>= f)
+  entry-stop f t = along-stop h f l (sym (ap directory-entry-outcome t) ∙ e)
 
 -- ---- one of the three lists
 module _ (s : List ℕ) (f : Frame) (item limit from count : ℕ) {b : Bool} (room : b ≡ leb (from + 8 * count) (length s)) where
@@ -87,7 +87,7 @@ module _ (s : List ℕ) (f : Frame) (item limit from count : ℕ) {b : Bool} (ro
   unfolding fixedAt
   entered q = sym (passes 9 item (sym room ∙ q) refl)
 
-  module _ (q : b ≡ true) {y : Checked} (g : checked-outcome y ≡ entriesPass s f item limit from count) where
+  module _ (q : b ≡ true) {y : CheckAnswer} (g : checked-outcome y ≡ entriesPass s f item limit from count) where
     pub list-stop : {r : Refusal} → y ≡ C.Refused r → refused r ≡ listPast s f item limit from count
     unfolding listAt
     list-stop u = sym (bind-refused past (bind-refused _ (entered q ∙ accepted-refused _ (sym (ap checked-outcome u) ∙ g))))
@@ -105,14 +105,14 @@ then (refused r) k g h = refl
 
 module _ (s : List ℕ) (f : Frame) (item : ℕ) where
   -- where the three lists end, one after the other
-  unfoldable pub lists-past : Head → Outcome Unit
+  unfoldable pub lists-past : DirectoryHead → Outcome Unit
   lists-past h = do
     m ← listPast s f item (f .fields) (item + 16) (h .fields)
     p ← listPast s f item (f .methods) m (h .methods)
     q ← listPast s f item (f .methods) p (h .parameters)
     answer tt
 
-  pub lists-by : (h : Head) {y : Outcome Unit} → y ≡ lists-past h → y ≡ listsPass s f item h
+  pub lists-by : (h : DirectoryHead) {y : Outcome Unit} → y ≡ lists-past h → y ≡ listsPass s f item h
   unfolding listsAt lists-past _>>=_
   lists-by h e =
       e ∙ sym (then (listAt s f item (f .fields) (item + 16) (h .fields)) _ _ (λ a.
@@ -120,13 +120,13 @@ module _ (s : List ℕ) (f : Frame) (item : ℕ) where
       then (listAt s f item (f .methods) (b .next) (h .parameters)) _ _ (λ c. refl))))
 
   -- head, then the lists
-  unfoldable pub head-kept : Outcome Head
+  unfoldable pub head-kept : Outcome DirectoryHead
   head-kept = do
     h ← headAt s f item
     u ← listsPass s f item h
     answer h
 
-  keeps : (h : Head) → (listsAt s f item h >>= λ (d : Directory). answer (d .head)) ≡ (listsPass s f item h >>= λ (u : Unit). answer h)
+  keeps : (h : DirectoryHead) → (listsAt s f item h >>= λ (d : Directory). answer (d .head)) ≡ (listsPass s f item h >>= λ (u : Unit). answer h)
   unfolding _>>=_
   keeps h = go (listsAt s f item h) refl
     where
@@ -134,60 +134,60 @@ module _ (s : List ℕ) (f : Frame) (item : ℕ) where
       go (answer d) e = ap answer (sym (lists-exact s f item h .sound d e .head))
       go (refused r) e = refl
 
-  pub directory-by : {y : Outcome Head} → y ≡ head-kept → y ≡ directoryHead s f item
+  pub directory-by : {y : Outcome DirectoryHead} → y ≡ head-kept → y ≡ directoryHead s f item
   unfolding directoryHead directoryAt head-kept _>>=_
   directory-by e = e ∙ sym (go (headAt s f item))
     where
-      go : (o : Outcome Head) → ((o >>= listsAt s f item) >>= λ (d : Directory). answer (d .head)) ≡ (o >>= λ (h : Head). listsPass s f item h >>= λ (u : Unit). answer h)
+      go : (o : Outcome DirectoryHead) → ((o >>= listsAt s f item) >>= λ (d : Directory). answer (d .head)) ≡ (o >>= λ (h : DirectoryHead). listsPass s f item h >>= λ (u : Unit). answer h)
       go (answer h) = keeps h
       go (refused r) = refl
 
 -- ---- entry k of a list
 module _ (s : List ℕ) (f : Frame) (item : ℕ) where
   abbrev One : Directory → ℕ → Type 0
-  One d list = Fixed s (EntryRule s f item (limitOf f list)) 8 (item + 16 + 8 * beforeOf (d .head) list) (countOf (d .head) list) (listOf d list)
+  One d list = Fixed s (DirectoryEntryRule s f item (limitOf f list)) 8 (item + 16 + 8 * beforeOf (d .head) list) (countOf (d .head) list) (listOf d list)
 
   -- every list of a directory obeys the rule of its number; any other list is empty
   one-list : (d : Directory) → DirectoryRule s f item d → (list : ℕ) → One d list
   unfolding limitOf beforeOf countOf listOf
   one-list d r list = go (eqb list 0) (eqb list 1) (eqb list 2)
     where
-      h : Head
+      h : DirectoryHead
       h = d .head
 
       behind : item + 16 + 8 * d .head .fields + 8 * d .head .methods ≡ item + 16 + 8 * (d .head .fields + d .head .methods)
       behind = omega arith
 
-      go : (a b c : Bool) → Fixed s (EntryRule s f item (cond a (f .fields) (f .methods))) 8 (item + 16 + 8 * cond a 0 (cond b (d .head .fields) (d .head .fields + d .head .methods)))
+      go : (a b c : Bool) → Fixed s (DirectoryEntryRule s f item (cond a (f .fields) (f .methods))) 8 (item + 16 + 8 * cond a 0 (cond b (d .head .fields) (d .head .fields + d .head .methods)))
           (cond a (d .head .fields) (cond b (d .head .methods) (cond c (d .head .parameters) 0))) (cond a (d .fields) (cond b (d .methods) (cond c (d .parameters) [])))
-      go true b c = let z : item + 16 ≡ item + 16 + 8 * 0 = omega arith in subst (λ (p : ℕ). Fixed s (EntryRule s f item (f .fields)) 8 p (d .head .fields) (d .fields)) z (r .fields)
+      go true b c = let z : item + 16 ≡ item + 16 + 8 * 0 = omega arith in subst (λ (p : ℕ). Fixed s (DirectoryEntryRule s f item (f .fields)) 8 p (d .head .fields) (d .fields)) z (r .fields)
       go false true c = r .methods
-      go false false true = subst (λ (p : ℕ). Fixed s (EntryRule s f item (f .methods)) 8 p (d .head .parameters) (d .parameters)) behind (r .parameters)
+      go false false true = subst (λ (p : ℕ). Fixed s (DirectoryEntryRule s f item (f .methods)) 8 p (d .head .parameters) (d .parameters)) behind (r .parameters)
       go false false false = record {
         room = let z = r .methods .room in omega arith;
         entries = record { count = refl; each = λ m. absurd (let z = at-below m in omega arith) };
       }
 
-  module _ {x : HeadAnswer} (e : head-outcome x ≡ directoryHead s f item) where
+  module _ {x : DirectoryHeadAnswer} (e : directory-head-outcome x ≡ directoryHead s f item) where
     pub entry-unread : (list k : ℕ) {r : Refusal} → x ≡ H.Refused r → refused r ≡ directoryEntry s f item list k
     unfolding directoryEntry directoryHead
-    entry-unread list k t = sym (bind-refused _ (part-refused (λ (d : Directory). d .head) (directoryAt s f item) (sym e ∙ ap head-outcome t)))
+    entry-unread list k t = sym (bind-refused _ (part-refused (λ (d : Directory). d .head) (directoryAt s f item) (sym e ∙ ap directory-head-outcome t)))
 
-    module _ {h : Head} (t : x ≡ H.Got h) where
+    module _ {h : DirectoryHead} (t : x ≡ H.Got h) where
       whole : (d : Directory) × ((directoryAt s f item ≡ answer d) × (d .head ≡ h))
       unfolding directoryHead
-      whole = part-answer (λ (d : Directory). d .head) (directoryAt s f item) (sym e ∙ ap head-outcome t)
+      whole = part-answer (λ (d : Directory). d .head) (directoryAt s f item) (sym e ∙ ap directory-head-outcome t)
 
       obeys : DirectoryRule s f item (whole .0)
       obeys = directory-exact s f item .sound (whole .0) (whole .1 .0)
 
       -- the three lists of a directory whose head was read lie inside
       pub directory-room : item + 16 + 8 * h .fields + 8 * h .methods + 8 * h .parameters ≤ length s
-      directory-room = subst (λ (g : Head). item + 16 + 8 * g .fields + 8 * g .methods + 8 * g .parameters ≤ length s) (whole .1 .1) (obeys .parameters .room)
+      directory-room = subst (λ (g : DirectoryHead). item + 16 + 8 * g .fields + 8 * g .methods + 8 * g .parameters ≤ length s) (whole .1 .1) (obeys .parameters .room)
 
       module _ (list k : ℕ) where
-        rule : Fixed s (EntryRule s f item (limitOf f list)) 8 (item + 16 + 8 * beforeOf h list) (countOf h list) (listOf (whole .0) list)
-        rule = subst (λ (g : Head). Fixed s (EntryRule s f item (limitOf f list)) 8 (item + 16 + 8 * beforeOf g list) (countOf g list) (listOf (whole .0) list)) (whole .1 .1)
+        rule : Fixed s (DirectoryEntryRule s f item (limitOf f list)) 8 (item + 16 + 8 * beforeOf h list) (countOf h list) (listOf (whole .0) list)
+        rule = subst (λ (g : DirectoryHead). Fixed s (DirectoryEntryRule s f item (limitOf f list)) 8 (item + 16 + 8 * beforeOf g list) (countOf g list) (listOf (whole .0) list)) (whole .1 .1)
             (one-list (whole .0) obeys list)
 
         module _ {n : ℕ} (size : n ≡ countOf h list) where
@@ -211,12 +211,12 @@ module _ (s : List ℕ) (f : Frame) (item : ℕ) where
             pub entry-number : Fits w64 (length s) → Fits w64 (b + k)
             entry-number z = let y = entry-inside in omega arith
 
-            pub entry-kth : {l : ℕ} {z : Outcome Entry} → l ≡ limitOf f list → z ≡ entryAt s f item l (item + 16 + 8 * (b + k)) → z ≡ directoryEntry s f item list k
+            pub entry-kth : {l : ℕ} {z : Outcome DirectoryEntry} → l ≡ limitOf f list → z ≡ entryAt s f item l (item + 16 + 8 * (b + k)) → z ≡ directoryEntry s f item list k
             unfolding directoryEntry
             entry-kth {l} {z} a g =
                 let there : item + 16 + 8 * (b + k) ≡ item + 16 + 8 * beforeOf h list + 8 * k = omega arith in
                 g ∙ (λ i. entryAt s f item (a i) (there i))
-                ∙ fixed-kth (entryAt s f item (limitOf f list)) 8 (item + 16 + 8 * beforeOf h list) (countOf h list) (EntryRule s f item (limitOf f list)) (entry-exact s f item (limitOf f list)) k rule (omega arith)
+                ∙ fixed-kth (entryAt s f item (limitOf f list)) 8 (item + 16 + 8 * beforeOf h list) (countOf h list) (DirectoryEntryRule s f item (limitOf f list)) (entry-exact s f item (limitOf f list)) k rule (omega arith)
                 ∙ sym (bind-answer _ (whole .1 .0))
 
 pub ruleset head-laws = (on-word, word-inside, after-eight, after-twelve, four-fits, calls, tests, needs)

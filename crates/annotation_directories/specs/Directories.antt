@@ -10,49 +10,49 @@ use Rattle.word.specs.Words.{u32At}
 use Rattle.frame.specs.declared.Frame.{Frame}
 use Rattle.frame.specs.Offsets.{allowed, allowedOrAbsent}
 use Rattle.value_bodies.specs.Bodies.{pick}
-use Rattle.annotation_directories.specs.declared.Head.{Head}
+use Rattle.annotation_directories.specs.declared.DirectoryHead.{DirectoryHead}
 use Rattle.annotation_lists.specs.Fixed.{entriesFrom, fixedAt}
 use Rattle.annotation_lists.specs.Offsets.{wordAt}
 
 -- an entry: a field or method, and where its set or reference list is
-pub record Entry : Type 0 where
+pub record DirectoryEntry : Type 0 where
   pub index : ℕ
   pub offset : ℕ
 
 -- what a directory says: its head has the class annotations' offset and three counts
 pub record Directory : Type 0 where
-  pub head : Head
-  pub fields : List Entry
-  pub methods : List Entry
-  pub parameters : List Entry
+  pub head : DirectoryHead
+  pub fields : List DirectoryEntry
+  pub methods : List DirectoryEntry
+  pub parameters : List DirectoryEntry
 
 module _ (s : List ℕ) (f : Frame) (item : ℕ) where
   -- a field that is there and wrong (8) comes before a later field that is missing (9)
-  unfoldable pub countsAt : ℕ → Outcome Head
+  unfoldable pub countsAt : ℕ → Outcome DirectoryHead
   countsAt set = do
     fields ← wordAt s f item (item + 4)
     methods ← wordAt s f item (item + 8)
     parameters ← wordAt s f item (item + 12)
     answer (record { set = set; fields = fields; methods = methods; parameters = parameters })
 
-  unfoldable pub headAt : Outcome Head
+  unfoldable pub headAt : Outcome DirectoryHead
   headAt = do
     set ← wordAt s f item item
     given (allowedOrAbsent (f .start) (length s) true set) 8 item (countsAt set)
 
   -- an entry whose index is below a limit: its index (11), then its offset (8)
   module _ (limit : ℕ) where
-    unfoldable pub entryOf : ℕ → ℕ → Outcome Entry
+    unfoldable pub entryOf : ℕ → ℕ → Outcome DirectoryEntry
     entryOf index offset =
         given (ltb index limit) 11 item
         (given (allowed (f .start) (length s) true offset) 8 item
         (answer (record { index = index; offset = offset })))
 
-    unfoldable pub entryAt : ℕ → Outcome Entry
+    unfoldable pub entryAt : ℕ → Outcome DirectoryEntry
     entryAt p = entryOf (u32At (f .order) s p) (u32At (f .order) s (p + 4))
 
     -- one of the three lists, and where it ends
-    unfoldable pub listAt : ℕ → ℕ → Outcome (Found (List Entry) ℕ)
+    unfoldable pub listAt : ℕ → ℕ → Outcome (Found (List DirectoryEntry) ℕ)
     listAt from count = do
       l ← fixedAt s item entryAt 8 from count
       answer (record { item = l; next = from + 8 * count })
@@ -65,7 +65,7 @@ module _ (s : List ℕ) (f : Frame) (item : ℕ) where
     listPast from count = listAt from count >>= past
 
 -- the three lists behind the head: "that list's length (9), then its entries". A parameter entry's index is a method
-unfoldable pub listsAt : List ℕ → Frame → ℕ → Head → Outcome Directory
+unfoldable pub listsAt : List ℕ → Frame → ℕ → DirectoryHead → Outcome Directory
 listsAt s f item h = do
   fields ← listAt s f item (f .fields) (item + 16) (h .fields)
   methods ← listAt s f item (f .methods) (fields .next) (h .methods)
@@ -76,34 +76,34 @@ unfoldable pub directoryAt : List ℕ → Frame → ℕ → Outcome Directory
 directoryAt s f item = headAt s f item >>= listsAt s f item
 
 -- a stage of the code: the three lists
-abbrev pub listsPass : List ℕ → Frame → ℕ → Head → Outcome Unit
+abbrev pub listsPass : List ℕ → Frame → ℕ → DirectoryHead → Outcome Unit
 listsPass s f item h = listsAt s f item h >>= accepted
 
 -- what code keeps: the head, or entry k of list 0, 1 or 2
-unfoldable pub directoryHead : List ℕ → Frame → ℕ → Outcome Head
+unfoldable pub directoryHead : List ℕ → Frame → ℕ → Outcome DirectoryHead
 directoryHead s f item = do
   d ← directoryAt s f item
   answer (d .head)
 
-unfoldable pub listOf : Directory → ℕ → List Entry
+unfoldable pub listOf : Directory → ℕ → List DirectoryEntry
 listOf d list =
     cond (eqb list 0) (d .fields)
     (cond (eqb list 1) (d .methods)
     (cond (eqb list 2) (d .parameters) []))
 
-unfoldable pub directoryEntry : List ℕ → Frame → ℕ → ℕ → ℕ → Outcome Entry
+unfoldable pub directoryEntry : List ℕ → Frame → ℕ → ℕ → ℕ → Outcome DirectoryEntry
 directoryEntry s f item list k = do
   d ← directoryAt s f item
   pick k (listOf d list)
 
 -- stages of the code: how many entries a list has, how many stand before it, and what its indices are tested by
-unfoldable pub countOf : Head → ℕ → ℕ
+unfoldable pub countOf : DirectoryHead → ℕ → ℕ
 countOf h list =
     cond (eqb list 0) (h .fields)
     (cond (eqb list 1) (h .methods)
     (cond (eqb list 2) (h .parameters) 0))
 
-unfoldable pub beforeOf : Head → ℕ → ℕ
+unfoldable pub beforeOf : DirectoryHead → ℕ → ℕ
 beforeOf h list =
     cond (eqb list 0) 0
     (cond (eqb list 1) (h .fields)

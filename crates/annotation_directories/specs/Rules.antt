@@ -7,11 +7,11 @@ use lib.ListN.{length}
 use Rattle.word.specs.Words.{u32At}
 use Rattle.frame.specs.declared.Frame.{Frame}
 use Rattle.frame.specs.Offsets.{Allowed, AllowedOrAbsent}
-use Rattle.annotation_directories.specs.declared.Head.{Head}
+use Rattle.annotation_directories.specs.declared.DirectoryHead.{DirectoryHead}
 use Rattle.annotation_lists.specs.Fixed.{Fixed}
-use Rattle.annotation_directories.specs.Directories.{Entry, Directory}
+use Rattle.annotation_directories.specs.Directories.{DirectoryEntry, Directory}
 
-pub record HeadRule (s : List ℕ) (f : Frame) (item : ℕ) (h : Head) : Type 0 where
+pub record DirectoryHeadRule (s : List ℕ) (f : Frame) (item : ℕ) (h : DirectoryHead) : Type 0 where
   pub room : item + 16 ≤ length s
   pub set : u32At (f .order) s item ≡ h .set
   pub allows : AllowedOrAbsent (f .start) (length s) true (h .set)
@@ -19,14 +19,14 @@ pub record HeadRule (s : List ℕ) (f : Frame) (item : ℕ) (h : Head) : Type 0 
   pub methods : u32At (f .order) s (item + 8) ≡ h .methods
   pub parameters : u32At (f .order) s (item + 12) ≡ h .parameters
 
-pub record EntryRule (s : List ℕ) (f : Frame) (item : ℕ) (limit p : ℕ) (e : Entry) : Type 0 where
+pub record DirectoryEntryRule (s : List ℕ) (f : Frame) (item : ℕ) (limit p : ℕ) (e : DirectoryEntry) : Type 0 where
   pub index : u32At (f .order) s p ≡ e .index
   pub offset : u32At (f .order) s (p + 4) ≡ e .offset
   pub below : e .index < limit
   pub allows : Allowed (f .start) (length s) true (e .offset)
 
 pub record DirectoryRule (s : List ℕ) (f : Frame) (item : ℕ) (d : Directory) : Type 0 where
-  pub head : HeadRule s f item (d .head)
-  pub fields : Fixed s (EntryRule s f item (f .fields)) 8 (item + 16) (d .head .fields) (d .fields)
-  pub methods : Fixed s (EntryRule s f item (f .methods)) 8 (item + 16 + 8 * d .head .fields) (d .head .methods) (d .methods)
-  pub parameters : Fixed s (EntryRule s f item (f .methods)) 8 (item + 16 + 8 * d .head .fields + 8 * d .head .methods) (d .head .parameters) (d .parameters)
+  pub head : DirectoryHeadRule s f item (d .head)
+  pub fields : Fixed s (DirectoryEntryRule s f item (f .fields)) 8 (item + 16) (d .head .fields) (d .fields)
+  pub methods : Fixed s (DirectoryEntryRule s f item (f .methods)) 8 (item + 16 + 8 * d .head .fields) (d .head .methods) (d .methods)
+  pub parameters : Fixed s (DirectoryEntryRule s f item (f .methods)) 8 (item + 16 + 8 * d .head .fields + 8 * d .head .methods) (d .head .parameters) (d .parameters)

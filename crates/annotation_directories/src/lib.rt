@@ -1,9 +1,9 @@
 // The annotation directory. One piece serves its three lists of entries.
 // `s` is the file up to the data section's end, so that what runs past its length is 9; all faults of an item are at its own place.
-use annotation_lists::Word;
-use encoded_value::Step;
+use annotation_lists::WordAnswer;
+use encoded_value::StepAnswer;
 use frame::Frame;
-use refusal::Checked;
+use refusal::CheckAnswer;
 use refusal::Refusal;
 ghost use mathlib.Core.Path.{_≡_};
 ghost use Prim.Native.Nat.{_+_, _*_, _≤_};
@@ -12,39 +12,39 @@ ghost use Rattle.encoded_value.specs.Answers.{step-outcome};
 ghost use Rattle.annotation_directories.specs.Directories.{countsAt, headAt, entryAt, entriesPass, listPast, listsPass, directoryHead, directoryEntry};
 ghost use Rattle.annotation_directories.specs.Directories.{countOf, beforeOf, limitOf};
 ghost use Rattle.refusal.specs.Answers.{checked-outcome};
-ghost use Rattle.annotation_directories.specs.Answers.{entry-outcome, head-outcome};
+ghost use Rattle.annotation_directories.specs.Answers.{directory-entry-outcome, directory-head-outcome};
 
 // A field or method, and where its set or reference list is.
-pub enum EntryAnswer {
+pub enum DirectoryEntryAnswer {
     Got { index: u32, offset: u32 },
     Refused(Refusal),
 }
 
 // A directory's head: where the class annotations are (0 for none), and how many fields, methods and parameter entries follow.
-pub struct Head {
+pub struct DirectoryHead {
     pub set: u32,
     pub fields: u32,
     pub methods: u32,
     pub parameters: u32,
 }
 
-pub enum HeadAnswer {
-    Got(Head),
+pub enum DirectoryHeadAnswer {
+    Got(DirectoryHead),
     Refused(Refusal),
 }
 
 // The three counts behind the class annotations' offset.
-fn counts_at(s: &[u8], f: Frame, item: usize, set: u32) -> HeadAnswer
+fn counts_at(s: &[u8], f: Frame, item: usize, set: u32) -> DirectoryHeadAnswer
     requires { ⌜ item + 4 ≤ length (now s) ⌝ }
-    ensures { λ r. ⌜ head-outcome r ≡ countsAt (now (s .entry)) f item set ⌝ }
+    ensures { λ r. ⌜ directory-head-outcome r ≡ countsAt (now (s .entry)) f item set ⌝ }
 {
     match annotation_lists::word_at(s, f, item, item + 4) {
-        Word::Refused(r) => HeadAnswer::Refused(r),
-        Word::Got(fields) => match annotation_lists::word_at(s, f, item, item + 8) {
-            Word::Refused(r) => HeadAnswer::Refused(r),
-            Word::Got(methods) => match annotation_lists::word_at(s, f, item, item + 12) {
-                Word::Refused(r) => HeadAnswer::Refused(r),
-                Word::Got(parameters) => HeadAnswer::Got(Head {
+        WordAnswer::Refused(r) => DirectoryHeadAnswer::Refused(r),
+        WordAnswer::Got(fields) => match annotation_lists::word_at(s, f, item, item + 8) {
+            WordAnswer::Refused(r) => DirectoryHeadAnswer::Refused(r),
+            WordAnswer::Got(methods) => match annotation_lists::word_at(s, f, item, item + 12) {
+                WordAnswer::Refused(r) => DirectoryHeadAnswer::Refused(r),
+                WordAnswer::Got(parameters) => DirectoryHeadAnswer::Got(DirectoryHead {
                     set,
                     fields,
                     methods,
@@ -56,16 +56,16 @@ fn counts_at(s: &[u8], f: Frame, item: usize, set: u32) -> HeadAnswer
 }
 
 // The head, field by field.
-fn head_at(s: &[u8], f: Frame, item: usize) -> HeadAnswer
-    ensures { λ r. ⌜ head-outcome r ≡ headAt (now (s .entry)) f item ⌝ }
+fn head_at(s: &[u8], f: Frame, item: usize) -> DirectoryHeadAnswer
+    ensures { λ r. ⌜ directory-head-outcome r ≡ headAt (now (s .entry)) f item ⌝ }
 {
     match annotation_lists::word_at(s, f, item, item) {
-        Word::Refused(r) => HeadAnswer::Refused(r),
-        Word::Got(set) => {
+        WordAnswer::Refused(r) => DirectoryHeadAnswer::Refused(r),
+        WordAnswer::Got(set) => {
             if frame::is_allowed_or_absent(f.start, s.len(), true, set as usize) {
                 return counts_at(s, f, item, set);
             }
-            HeadAnswer::Refused(Refusal {
+            DirectoryHeadAnswer::Refused(Refusal {
                 number: 8,
                 place: item,
             })
@@ -74,30 +74,30 @@ fn head_at(s: &[u8], f: Frame, item: usize) -> HeadAnswer
 }
 
 // The entry at a place: its index below a limit, then its offset.
-fn entry_at(s: &[u8], f: Frame, item: usize, limit: u32, at: usize) -> EntryAnswer
+fn entry_at(s: &[u8], f: Frame, item: usize, limit: u32, at: usize) -> DirectoryEntryAnswer
     requires { ⌜ at + 8 ≤ length (now s) ⌝ }
-    ensures { λ r. ⌜ entry-outcome r ≡ entryAt (now (s .entry)) f item limit at ⌝ }
+    ensures { λ r. ⌜ directory-entry-outcome r ≡ entryAt (now (s .entry)) f item limit at ⌝ }
 {
     let order = f.order;
     let index = word::u32_at(s, at, order);
     let offset = word::u32_at(s, at + 4, order);
     if index < limit {
         if frame::is_allowed(f.start, s.len(), true, offset as usize) {
-            return EntryAnswer::Got { index, offset };
+            return DirectoryEntryAnswer::Got { index, offset };
         }
-        return EntryAnswer::Refused(Refusal {
+        return DirectoryEntryAnswer::Refused(Refusal {
             number: 8,
             place: item,
         });
     }
-    EntryAnswer::Refused(Refusal {
+    DirectoryEntryAnswer::Refused(Refusal {
         number: 11,
         place: item,
     })
 }
 
 // All entries from a place on, which lie within the slice.
-fn entries_pass(s: &[u8], f: Frame, item: usize, limit: u32, from: usize, count: u32) -> Checked
+fn entries_pass(s: &[u8], f: Frame, item: usize, limit: u32, from: usize, count: u32) -> CheckAnswer
     requires { ⌜ from + 8 * count ≤ length (now s) ⌝ }
     ensures { λ r. ⌜ checked-outcome r ≡ entriesPass (now (s .entry)) f item limit from count ⌝ }
 {
@@ -105,10 +105,10 @@ fn entries_pass(s: &[u8], f: Frame, item: usize, limit: u32, from: usize, count:
     let mut left = count;
     while 0 < left {
         match entry_at(s, f, item, limit, at) {
-            EntryAnswer::Refused(r) => {
-                return Checked::Refused(r);
+            DirectoryEntryAnswer::Refused(r) => {
+                return CheckAnswer::Refused(r);
             }
-            EntryAnswer::Got {
+            DirectoryEntryAnswer::Got {
                 index: _,
                 offset: _,
             } => {
@@ -117,43 +117,43 @@ fn entries_pass(s: &[u8], f: Frame, item: usize, limit: u32, from: usize, count:
         }
         left -= 1;
     }
-    Checked::Accepted
+    CheckAnswer::Accepted
 }
 
 // One of the three lists, its length first: where it ends.
-fn list_past(s: &[u8], f: Frame, item: usize, limit: u32, from: usize, count: u32) -> Step
+fn list_past(s: &[u8], f: Frame, item: usize, limit: u32, from: usize, count: u32) -> StepAnswer
     ensures { λ r. ⌜ step-outcome r ≡ listPast (now (s .entry)) f item limit from count ⌝ }
 {
     let size = 8 * count as usize;
     if word::has_room(s.len(), from, size) {
         match entries_pass(s, f, item, limit, from, count) {
-            Checked::Refused(r) => {
-                return Step::Refused(r);
+            CheckAnswer::Refused(r) => {
+                return StepAnswer::Refused(r);
             }
-            Checked::Accepted => {
-                return Step::Next(from + size);
+            CheckAnswer::Accepted => {
+                return StepAnswer::Next(from + size);
             }
         }
     }
-    Step::Refused(Refusal {
+    StepAnswer::Refused(Refusal {
         number: 9,
         place: item,
     })
 }
 
 // Fields, methods and parameters in turn.
-fn lists_pass(s: &[u8], f: Frame, item: usize, h: Head) -> Checked
+fn lists_pass(s: &[u8], f: Frame, item: usize, h: DirectoryHead) -> CheckAnswer
     requires { ⌜ item + 16 ≤ length (now s) ⌝ }
     ensures { λ r. ⌜ checked-outcome r ≡ listsPass (now (s .entry)) f item h ⌝ }
 {
     match list_past(s, f, item, f.fields, item + 16, h.fields) {
-        Step::Refused(r) => Checked::Refused(r),
-        Step::Next(methods) => match list_past(s, f, item, f.methods, methods, h.methods) {
-            Step::Refused(r) => Checked::Refused(r),
-            Step::Next(parameters) => {
+        StepAnswer::Refused(r) => CheckAnswer::Refused(r),
+        StepAnswer::Next(methods) => match list_past(s, f, item, f.methods, methods, h.methods) {
+            StepAnswer::Refused(r) => CheckAnswer::Refused(r),
+            StepAnswer::Next(parameters) => {
                 match list_past(s, f, item, f.methods, parameters, h.parameters) {
-                    Step::Refused(r) => Checked::Refused(r),
-                    Step::Next(_) => Checked::Accepted,
+                    StepAnswer::Refused(r) => CheckAnswer::Refused(r),
+                    StepAnswer::Next(_) => CheckAnswer::Accepted,
                 }
             }
         },
@@ -161,20 +161,20 @@ fn lists_pass(s: &[u8], f: Frame, item: usize, h: Head) -> Checked
 }
 
 // The directory at a place, by its own rules: its head.
-pub fn directory(s: &[u8], f: Frame, item: usize) -> HeadAnswer
-    ensures { λ r. ⌜ head-outcome r ≡ directoryHead (now (s .entry)) f item ⌝ }
+pub fn directory(s: &[u8], f: Frame, item: usize) -> DirectoryHeadAnswer
+    ensures { λ r. ⌜ directory-head-outcome r ≡ directoryHead (now (s .entry)) f item ⌝ }
 {
     match head_at(s, f, item) {
-        HeadAnswer::Refused(r) => HeadAnswer::Refused(r),
-        HeadAnswer::Got(h) => match lists_pass(s, f, item, h) {
-            Checked::Refused(r) => HeadAnswer::Refused(r),
-            Checked::Accepted => HeadAnswer::Got(h),
+        DirectoryHeadAnswer::Refused(r) => DirectoryHeadAnswer::Refused(r),
+        DirectoryHeadAnswer::Got(h) => match lists_pass(s, f, item, h) {
+            CheckAnswer::Refused(r) => DirectoryHeadAnswer::Refused(r),
+            CheckAnswer::Accepted => DirectoryHeadAnswer::Got(h),
         },
     }
 }
 
 // How many entries a list has: fields 0, methods 1, parameters 2.
-fn count_of(h: Head, list: u32) -> u32
+fn count_of(h: DirectoryHead, list: u32) -> u32
     ensures { λ r. ⌜ r ≡ countOf h list ⌝ }
 {
     if list == 0 {
@@ -190,7 +190,7 @@ fn count_of(h: Head, list: u32) -> u32
 }
 
 // How many entries stand before a list's.
-fn before_of(h: Head, list: u32) -> usize
+fn before_of(h: DirectoryHead, list: u32) -> usize
     ensures { λ r. ⌜ r ≡ beforeOf h list ⌝ }
 {
     if list == 0 {
@@ -213,12 +213,12 @@ fn limit_of(f: Frame, list: u32) -> u32
 }
 
 // Entry k of a list: fields 0, methods 1, parameters 2.
-pub fn directory_entry(s: &[u8], f: Frame, item: usize, list: u32, k: u32) -> EntryAnswer
-    ensures { λ r. ⌜ entry-outcome r ≡ directoryEntry (now (s .entry)) f item list k ⌝ }
+pub fn directory_entry(s: &[u8], f: Frame, item: usize, list: u32, k: u32) -> DirectoryEntryAnswer
+    ensures { λ r. ⌜ directory-entry-outcome r ≡ directoryEntry (now (s .entry)) f item list k ⌝ }
 {
     match directory(s, f, item) {
-        HeadAnswer::Refused(r) => EntryAnswer::Refused(r),
-        HeadAnswer::Got(h) => {
+        DirectoryHeadAnswer::Refused(r) => DirectoryEntryAnswer::Refused(r),
+        DirectoryHeadAnswer::Got(h) => {
             if k < count_of(h, list) {
                 let before = before_of(h, list);
                 return entry_at(
@@ -229,7 +229,7 @@ pub fn directory_entry(s: &[u8], f: Frame, item: usize, list: u32, k: u32) -> En
                     item + 16 + 8 * (before + k as usize),
                 );
             }
-            EntryAnswer::Refused(Refusal {
+            DirectoryEntryAnswer::Refused(Refusal {
                 number: 7,
                 place: 0,
             })

@@ -9,19 +9,19 @@ use Rattle.refusal.proofs.Exact.{same, answer-exact, given-exact, bind-exact, e
 use Rattle.frame.specs.declared.Frame.{Frame}
 use Rattle.value_heads.specs.Kinds.{walkOf}
 use Rattle.encoded_value.proofs.Exactly.{annotation-rule-exact}
-use Rattle.annotation_items.specs.Items.{Item, visibilityAt, itemAt}
-use Rattle.annotation_items.specs.Rules.{ItemRule}
+use Rattle.annotation_items.specs.Items.{AnnotationItem, visibilityAt, itemAt}
+use Rattle.annotation_items.specs.Rules.{AnnotationItemRule}
 
 pub visibility-exact : (s : List ℕ) (item : ℕ) → Exact (visibilityAt s item) (λ (v : ℕ). (item < length s) × ((getD s item 0 ≤ 2) × (getD s item 0 ≡ v)))
 unfolding visibilityAt
 visibility-exact s item = given-exact 9 item (below item (length s)) (given-exact 18 item (at-most (getD s item 0) 2) (answer-exact (getD s item 0)))
 
 module _ (s : List ℕ) (f : Frame) (item : ℕ) where
-  pub item-exact : Exact (itemAt s f item) (ItemRule s f item)
+  pub item-exact : Exact (itemAt s f item) (AnnotationItemRule s f item)
   unfolding itemAt
   item-exact =
       exact-iff (bind-exact _ _ (visibility-exact s item) (λ v. bind-exact _ _ (annotation-rule-exact s (walkOf f item) (item + 1)) (λ a. answer-exact (record { place = item; visibility = v; annotation = a .item }))))
-      (λ a p. subst (ItemRule s f item) (p .1 .1 .1 .1)
+      (λ a p. subst (AnnotationItemRule s f item) (p .1 .1 .1 .1)
       (record {
         place = refl;
         room = p .1 .0 .0;
@@ -38,5 +38,5 @@ module _ (s : List ℕ) (f : Frame) (item : ℕ) where
         ),
       ))
 
-  pub item-same : (a b : Item) → ItemRule s f item a → ItemRule s f item b → a ≡ b
+  pub item-same : (a b : AnnotationItem) → AnnotationItemRule s f item a → AnnotationItemRule s f item b → a ≡ b
   item-same = same item-exact

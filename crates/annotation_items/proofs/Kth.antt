@@ -11,11 +11,11 @@ use Rattle.frame.specs.declared.Frame.{Frame}
 use Rattle.encoded_value.specs.Tree.{Named}
 use Rattle.decoded_value.specs.Shown.{shown}
 use Rattle.value_bodies.proofs.Picks.{pick-there, pick-none}
-use Rattle.annotation_items.specs.Items.{Item, itemVisibility, itemSummary, itemElement}
-use Rattle.annotation_items.specs.Rules.{ItemRule}
+use Rattle.annotation_items.specs.Items.{AnnotationItem, itemVisibility, itemSummary, itemElement}
+use Rattle.annotation_items.specs.Rules.{AnnotationItemRule}
 use Rattle.annotation_items.proofs.Exactly.{item-exact}
 
-module _ (s : List ℕ) (f : Frame) (item : ℕ) (a : Item) (h : ItemRule s f item a) where
+module _ (s : List ℕ) (f : Frame) (item : ℕ) (a : AnnotationItem) (h : AnnotationItemRule s f item a) where
   pub item-visible : itemVisibility s f item ≡ answer (a .visibility)
   unfolding itemVisibility
   item-visible = bind-answer _ (item-exact s f item .complete a h)

@@ -5,20 +5,20 @@ use mathlib.Core.Path.{_≡_, refl}
 use Rattle.refusal.specs.Outcome.{Outcome, answer, refused}
 use Rattle.refusal.proofs.Laws.{one-to-one}
 use Rattle.annotation_items.specs.Items.{Summary}
-use Rattle.annotation_items.specs.declared.Visibility as N
+use Rattle.annotation_items.specs.declared.VisibilityAnswer as N
 use Rattle.annotation_items.specs.declared.SummaryAnswer as S
 use Rattle.annotation_items.specs.Answers.{visibility-outcome, summary-outcome}
 
-visibility-back : Outcome ℕ → N.Visibility
+visibility-back : Outcome ℕ → N.VisibilityAnswer
 visibility-back (answer v) = N.the-variants.Got v
 visibility-back (refused r) = N.the-variants.Refused r
 
-visibility-told : (x : N.Visibility) → visibility-back (visibility-outcome x) ≡ x
+visibility-told : (x : N.VisibilityAnswer) → visibility-back (visibility-outcome x) ≡ x
 unfolding visibility-back
 visibility-told (N.the-variants.Got v) = refl
 visibility-told (N.the-variants.Refused r) = refl
 
-pub visibility-once : (x y : N.Visibility) → visibility-outcome x ≡ visibility-outcome y → x ≡ y
+pub visibility-once : (x y : N.VisibilityAnswer) → visibility-outcome x ≡ visibility-outcome y → x ≡ y
 visibility-once = one-to-one visibility-outcome visibility-back visibility-told
 
 summary-back : Outcome Summary → S.SummaryAnswer

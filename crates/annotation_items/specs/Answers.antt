@@ -2,10 +2,10 @@
 use Prim.Native.Nat.{ℕ}
 use Rattle.refusal.specs.Outcome.{Outcome, answer, refused}
 use Rattle.annotation_items.specs.Items.{Summary}
-use Rattle.annotation_items.specs.declared.Visibility as N
+use Rattle.annotation_items.specs.declared.VisibilityAnswer as N
 use Rattle.annotation_items.specs.declared.SummaryAnswer as S
 
-abbrev pub visibility-outcome : N.Visibility → Outcome ℕ
+abbrev pub visibility-outcome : N.VisibilityAnswer → Outcome ℕ
 visibility-outcome (N.the-variants.Got v) = answer v
 visibility-outcome (N.the-variants.Refused r) = refused r
 

@@ -13,7 +13,7 @@ use Rattle.decoded_value.specs.Shown.{shown}
 use Rattle.value_bodies.specs.Bodies.{ShownElement, pick}
 
 -- what an annotation item says, and where it is
-pub record Item : Type 0 where
+pub record AnnotationItem : Type 0 where
   pub place : ℕ
   pub visibility : ℕ
   pub annotation : Annotation
@@ -29,7 +29,7 @@ unfoldable pub visibilityAt : List ℕ → ℕ → Outcome ℕ
 visibilityAt s item = given (ltb item (length s)) 9 item (given (leb (getD s item 0) 2) 18 item (answer (getD s item 0)))
 
 module _ (s : List ℕ) (f : Frame) (item : ℕ) where
-  unfoldable pub itemAt : Outcome Item
+  unfoldable pub itemAt : Outcome AnnotationItem
   itemAt = do
     v ← visibilityAt s item
     a ← annotationAt s (walkOf f item) deepest (item + 1)

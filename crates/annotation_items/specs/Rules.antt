@@ -6,9 +6,9 @@ use lib.ListN.{length, getD}
 use Rattle.frame.specs.declared.Frame.{Frame}
 use Rattle.value_heads.specs.Kinds.{walkOf}
 use Rattle.encoded_value.specs.Rules.{AnnotationRule}
-use Rattle.annotation_items.specs.Items.{Item}
+use Rattle.annotation_items.specs.Items.{AnnotationItem}
 
-pub record ItemRule (s : List ℕ) (f : Frame) (item : ℕ) (a : Item) : Type 0 where
+pub record AnnotationItemRule (s : List ℕ) (f : Frame) (item : ℕ) (a : AnnotationItem) : Type 0 where
   pub place : item ≡ a .place
   pub room : item < length s
   pub visibility : getD s item 0 ≡ a .visibility

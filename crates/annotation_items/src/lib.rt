@@ -1,15 +1,15 @@
 // The annotation item: a visibility, then an annotation body at depth 1.
 // `s` is the file up to the data section's end, so that what runs past its length is 9; all faults of an item are at its own place.
-use encoded_value::Step;
+use encoded_value::StepAnswer;
 use frame::Frame;
 use refusal::Refusal;
-use value_bodies::Element;
+use value_bodies::ElementAnswer;
 ghost use mathlib.Core.Path.{_≡_};
 ghost use Rattle.value_bodies.specs.Answers.{element-outcome};
 ghost use Rattle.annotation_items.specs.Items.{visibilityAt, itemVisibility, itemSummary, itemElement};
 ghost use Rattle.annotation_items.specs.Answers.{visibility-outcome, summary-outcome};
 
-pub enum Visibility {
+pub enum VisibilityAnswer {
     Got(u8),
     Refused(Refusal),
 }
@@ -25,35 +25,35 @@ pub enum SummaryAnswer {
 }
 
 // The visibility byte.
-fn visibility_at(s: &[u8], item: usize) -> Visibility
+fn visibility_at(s: &[u8], item: usize) -> VisibilityAnswer
     ensures { λ r. ⌜ visibility-outcome r ≡ visibilityAt (now (s .entry)) item ⌝ }
 {
     if s.len() <= item {
-        return Visibility::Refused(Refusal {
+        return VisibilityAnswer::Refused(Refusal {
             number: 9,
             place: item,
         });
     }
     let visibility = s[item];
     if visibility <= 2 {
-        return Visibility::Got(visibility);
+        return VisibilityAnswer::Got(visibility);
     }
-    Visibility::Refused(Refusal {
+    VisibilityAnswer::Refused(Refusal {
         number: 18,
         place: item,
     })
 }
 
 // The annotation item at a place, gone over whole: its visibility.
-pub fn annotation_item(s: &[u8], f: Frame, item: usize) -> Visibility
+pub fn annotation_item(s: &[u8], f: Frame, item: usize) -> VisibilityAnswer
     ensures { λ r. ⌜ visibility-outcome r ≡ itemVisibility (now (s .entry)) f item ⌝ }
 {
     match visibility_at(s, item) {
-        Visibility::Refused(r) => Visibility::Refused(r),
-        Visibility::Got(visibility) => {
+        VisibilityAnswer::Refused(r) => VisibilityAnswer::Refused(r),
+        VisibilityAnswer::Got(visibility) => {
             match encoded_value::top_annotation(s, value_heads::walk_of(f, item), item + 1) {
-                Step::Refused(r) => Visibility::Refused(r),
-                Step::Next(_) => Visibility::Got(visibility),
+                StepAnswer::Refused(r) => VisibilityAnswer::Refused(r),
+                StepAnswer::Next(_) => VisibilityAnswer::Got(visibility),
             }
         }
     }
@@ -64,27 +64,28 @@ pub fn annotation(s: &[u8], f: Frame, item: usize) -> SummaryAnswer
     ensures { λ r. ⌜ summary-outcome r ≡ itemSummary (now (s .entry)) f item ⌝ }
 {
     match visibility_at(s, item) {
-        Visibility::Refused(r) => SummaryAnswer::Refused(r),
-        Visibility::Got(visibility) => {
+        VisibilityAnswer::Refused(r) => SummaryAnswer::Refused(r),
+        VisibilityAnswer::Got(visibility) => {
             match value_bodies::annotation_head(s, value_heads::walk_of(f, item), item + 1) {
-                value_bodies::Head::Refused(r) => SummaryAnswer::Refused(r),
-                value_bodies::Head::Got { type_index, count } => SummaryAnswer::Got {
-                    visibility,
-                    type_index,
-                    count,
-                },
+                value_bodies::AnnotationHeadAnswer::Refused(r) => SummaryAnswer::Refused(r),
+                value_bodies::AnnotationHeadAnswer::Got { type_index, count } =>
+                    SummaryAnswer::Got {
+                        visibility,
+                        type_index,
+                        count,
+                    },
             }
         }
     }
 }
 
 // Element k of the annotation item at a place: its name and its value.
-pub fn annotation_element(s: &[u8], f: Frame, item: usize, k: u32) -> Element
+pub fn annotation_element(s: &[u8], f: Frame, item: usize, k: u32) -> ElementAnswer
     ensures { λ r. ⌜ element-outcome r ≡ itemElement (now (s .entry)) f item k ⌝ }
 {
     match visibility_at(s, item) {
-        Visibility::Refused(r) => Element::Refused(r),
-        Visibility::Got(_) => {
+        VisibilityAnswer::Refused(r) => ElementAnswer::Refused(r),
+        VisibilityAnswer::Got(_) => {
             value_bodies::annotation_element(s, value_heads::walk_of(f, item), item + 1, k)
         }
     }

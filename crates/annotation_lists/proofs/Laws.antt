@@ -23,23 +23,23 @@ use Rattle.value_bodies.proofs.Picks.{pick-none}
 use Rattle.annotation_lists.specs.Fixed.{entriesFrom, fixedAt}
 use Rattle.annotation_lists.specs.Offsets.{wordAt, offsetOf, offsetAt, offsetsAt, offsetCount, offsetNumber, offsetsPass}
 use Rattle.annotation_lists.specs.Rules.{OffsetRule, OffsetsRule}
-use Rattle.refusal.specs.declared.Checked.{Checked}
-use Rattle.refusal.specs.declared.Checked.the-variants as C
-use Rattle.annotation_lists.specs.declared.Word.{Word}
-use Rattle.annotation_lists.specs.declared.Word.the-variants as W
+use Rattle.refusal.specs.declared.CheckAnswer.{CheckAnswer}
+use Rattle.refusal.specs.declared.CheckAnswer.the-variants as C
+use Rattle.annotation_lists.specs.declared.WordAnswer.{WordAnswer}
+use Rattle.annotation_lists.specs.declared.WordAnswer.the-variants as W
 use Rattle.annotation_lists.specs.Answers.{word-outcome}
 use Rattle.annotation_lists.proofs.Fixed.{Along, along-first, along-next, along-stop, along-done, along-four, entries-exact, fixed-kth}
 use Rattle.annotation_lists.proofs.Exactly.{word-exact, offset-exact, offsets-exact}
 
 -- a call's answer, by the arm that was taken
-pub on-word : {B : Type 0} {x c : Word} {o : Outcome ℕ} {y : Outcome B} (k : ℕ → Outcome B) → word-outcome x ≡ o → x ≡ c → y ≡ (word-outcome c >>= k) → y ≡ (o >>= k)
+pub on-word : {B : Type 0} {x c : WordAnswer} {o : Outcome ℕ} {y : Outcome B} (k : ℕ → Outcome B) → word-outcome x ≡ o → x ≡ c → y ≡ (word-outcome c >>= k) → y ≡ (o >>= k)
 on-word = said word-outcome
 
 -- a word that was read lies inside
-pub word-inside : (s : List ℕ) (f : Frame) (item p : ℕ) {x : Word} {v : ℕ} → word-outcome x ≡ wordAt s f item p → x ≡ W.Got v → p + 4 ≤ length s
+pub word-inside : (s : List ℕ) (f : Frame) (item p : ℕ) {x : WordAnswer} {v : ℕ} → word-outcome x ≡ wordAt s f item p → x ≡ W.Got v → p + 4 ≤ length s
 word-inside s f item p {v = v} e t = word-exact s f item p .sound v (sym e ∙ ap word-outcome t) .0
 
-pub word-after : (s : List ℕ) (f : Frame) (item p : ℕ) {x : Word} {v : ℕ} → word-outcome x ≡ wordAt s f item p → x ≡ W.Got v → Fits w64 (length s) → Fits w64 (p + 4)
+pub word-after : (s : List ℕ) (f : Frame) (item p : ℕ) {x : WordAnswer} {v : ℕ} → word-outcome x ≡ wordAt s f item p → x ≡ W.Got v → Fits w64 (length s) → Fits w64 (p + 4)
 word-after s f item p e t h = let z = word-inside s f item p e t in omega arith
 
 pub offset-by : (s : List ℕ) (f : Frame) (item : ℕ) (absent four : Bool) (p : ℕ) {v : ℕ} {y : Outcome ℕ}
@@ -48,7 +48,7 @@ unfolding offsetAt
 offset-by s f item absent four p e h = rw (← e) h
 
 -- the loop over offsets
-module _ {entry : ℕ → Outcome ℕ} {s : List ℕ} {width from count left at : ℕ} (h : Along entry s width from count left at) {x : Word} (l : 0 < left) (e : word-outcome x ≡ entry at) where
+module _ {entry : ℕ → Outcome ℕ} {s : List ℕ} {width from count left at : ℕ} (h : Along entry s width from count left at) {x : WordAnswer} (l : 0 < left) (e : word-outcome x ≡ entry at) where
   pub word-next : {v : ℕ} → x ≡ W.Got v → Along entry s width from count (left - 1) (at + width)
   word-next t = along-next h l (sym (ap word-outcome t) ∙ e)
 
@@ -57,7 +57,7 @@ module _ {entry : ℕ → Outcome ℕ} {s : List ℕ} {width from count left at 
 
 -- ---- the stages of a list
 module _ (s : List ℕ) (f : Frame) (item : ℕ) (absent four : Bool) where
-  module _ {x : Word} (e : word-outcome x ≡ wordAt s f item item) where
+  module _ {x : WordAnswer} (e : word-outcome x ≡ wordAt s f item item) where
     pub count-unread : {r : Refusal} → x ≡ W.Refused r → refused r ≡ offsetCount s f item absent four
     unfolding offsetCount offsetsAt
     count-unread t = sym (bind-refused _ (bind-refused _ (sym e ∙ ap word-outcome t)))
@@ -75,7 +75,7 @@ module _ (s : List ℕ) (f : Frame) (item : ℕ) (absent four : Bool) where
       unfolding fixedAt
       entered q = past-size ∙ sym (passes 9 item (sym room ∙ q) refl)
 
-      module _ (q : b ≡ true) {y : Checked} (g : checked-outcome y ≡ offsetsPass s f item absent four (item + 4) n) where
+      module _ (q : b ≡ true) {y : CheckAnswer} (g : checked-outcome y ≡ offsetsPass s f item absent four (item + 4) n) where
         pub count-stop : {r : Refusal} → y ≡ C.Refused r → refused r ≡ offsetCount s f item absent four
         unfolding offsetCount
         count-stop u = sym (bind-refused _ (entered q ∙ accepted-refused _ (sym (ap checked-outcome u) ∙ g)))
@@ -87,7 +87,7 @@ module _ (s : List ℕ) (f : Frame) (item : ℕ) (absent four : Bool) where
             let each = entries-exact (offsetAt s f item absent four) 4 (item + 4) n (OffsetRule s f item absent four) (offset-exact s f item absent four) .sound (all .0) (all .1) in
             sym (bind-answer _ (entered q ∙ all .1) ∙ ap answer (each .count))
 
-  module _ {x : Word} (e : word-outcome x ≡ offsetCount s f item absent four) where
+  module _ {x : WordAnswer} (e : word-outcome x ≡ offsetCount s f item absent four) where
     pub number-unread : (k : ℕ) {r : Refusal} → x ≡ W.Refused r → refused r ≡ offsetNumber s f item absent four k
     unfolding offsetNumber offsetCount
     number-unread k t = sym (bind-refused _ (part-refused length (offsetsAt s f item absent four) (sym e ∙ ap word-outcome t)))

@@ -1,7 +1,7 @@
 // Annotation sets and reference lists: a size, then offsets. One piece serves both: is 0 an absent item, must the others be multiples of 4.
 // `s` is the file up to the data section's end, so that what runs past its length is 9; all faults of an item are at its own place.
 use frame::Frame;
-use refusal::Checked;
+use refusal::CheckAnswer;
 use refusal::Refusal;
 ghost use mathlib.Core.Path.{_≡_};
 ghost use mathlib.Core.Bool.{true, false};
@@ -12,20 +12,20 @@ ghost use Rattle.refusal.specs.Answers.{checked-outcome};
 ghost use Rattle.annotation_lists.specs.Answers.{word-outcome};
 
 // A count or an offset.
-pub enum Word {
+pub enum WordAnswer {
     Got(u32),
     Refused(Refusal),
 }
 
 // A word of four bytes, 9 where it is missing.
-pub fn word_at(s: &[u8], f: Frame, item: usize, at: usize) -> Word
+pub fn word_at(s: &[u8], f: Frame, item: usize, at: usize) -> WordAnswer
     ensures { λ r. ⌜ word-outcome r ≡ wordAt (now (s .entry)) f item at ⌝ }
 {
     let order = f.order;
     if word::has_room(s.len(), at, 4) {
-        return Word::Got(word::u32_at(s, at, order));
+        return WordAnswer::Got(word::u32_at(s, at, order));
     }
-    Word::Refused(Refusal {
+    WordAnswer::Refused(Refusal {
         number: 9,
         place: item,
     })
@@ -42,15 +42,15 @@ fn is_offset(start: usize, end: usize, absent: bool, four: bool, offset: usize) 
 }
 
 // The offset at a place.
-fn offset_at(s: &[u8], f: Frame, item: usize, absent: bool, four: bool, at: usize) -> Word
+fn offset_at(s: &[u8], f: Frame, item: usize, absent: bool, four: bool, at: usize) -> WordAnswer
     ensures { λ r. ⌜ word-outcome r ≡ offsetAt (now (s .entry)) f item absent four at ⌝ }
 {
     let order = f.order;
     let offset = word::u32_at(s, at, order);
     if is_offset(f.start, s.len(), absent, four, offset as usize) {
-        return Word::Got(offset);
+        return WordAnswer::Got(offset);
     }
-    Word::Refused(Refusal {
+    WordAnswer::Refused(Refusal {
         number: 8,
         place: item,
     })
@@ -65,7 +65,7 @@ fn offsets_pass(
     four: bool,
     from: usize,
     count: u32,
-) -> Checked
+) -> CheckAnswer
     requires { ⌜ from + 4 * count ≤ length (now s) ⌝ }
     ensures { λ r. ⌜ checked-outcome r ≡ offsetsPass (now (s .entry)) f item absent four from count ⌝ }
 {
@@ -73,37 +73,37 @@ fn offsets_pass(
     let mut left = count;
     while 0 < left {
         match offset_at(s, f, item, absent, four, at) {
-            Word::Refused(r) => {
-                return Checked::Refused(r);
+            WordAnswer::Refused(r) => {
+                return CheckAnswer::Refused(r);
             }
-            Word::Got(_) => {
+            WordAnswer::Got(_) => {
                 at += 4;
             }
         }
         left -= 1;
     }
-    Checked::Accepted
+    CheckAnswer::Accepted
 }
 
 // How many offsets a list has: its size, its length, then its offsets. The going over a set calls this itself and not `set_count`, which has other
 // callers and would not be compiled into it.
-pub fn offset_count(s: &[u8], f: Frame, item: usize, absent: bool, four: bool) -> Word
+pub fn offset_count(s: &[u8], f: Frame, item: usize, absent: bool, four: bool) -> WordAnswer
     ensures { λ r. ⌜ word-outcome r ≡ offsetCount (now (s .entry)) f item absent four ⌝ }
 {
     match word_at(s, f, item, item) {
-        Word::Refused(r) => Word::Refused(r),
-        Word::Got(count) => {
+        WordAnswer::Refused(r) => WordAnswer::Refused(r),
+        WordAnswer::Got(count) => {
             if word::has_room(s.len(), item + 4, 4 * count as usize) {
                 match offsets_pass(s, f, item, absent, four, item + 4, count) {
-                    Checked::Refused(r) => {
-                        return Word::Refused(r);
+                    CheckAnswer::Refused(r) => {
+                        return WordAnswer::Refused(r);
                     }
-                    Checked::Accepted => {
-                        return Word::Got(count);
+                    CheckAnswer::Accepted => {
+                        return WordAnswer::Got(count);
                     }
                 }
             }
-            Word::Refused(Refusal {
+            WordAnswer::Refused(Refusal {
                 number: 9,
                 place: item,
             })
@@ -112,16 +112,16 @@ pub fn offset_count(s: &[u8], f: Frame, item: usize, absent: bool, four: bool) -
 }
 
 // Number k of a list's offsets.
-fn offset_number(s: &[u8], f: Frame, item: usize, absent: bool, four: bool, k: u32) -> Word
+fn offset_number(s: &[u8], f: Frame, item: usize, absent: bool, four: bool, k: u32) -> WordAnswer
     ensures { λ r. ⌜ word-outcome r ≡ offsetNumber (now (s .entry)) f item absent four k ⌝ }
 {
     match offset_count(s, f, item, absent, four) {
-        Word::Refused(r) => Word::Refused(r),
-        Word::Got(count) => {
+        WordAnswer::Refused(r) => WordAnswer::Refused(r),
+        WordAnswer::Got(count) => {
             if k < count {
                 return offset_at(s, f, item, absent, four, item + 4 + 4 * k as usize);
             }
-            Word::Refused(Refusal {
+            WordAnswer::Refused(Refusal {
                 number: 7,
                 place: 0,
             })
@@ -130,28 +130,28 @@ fn offset_number(s: &[u8], f: Frame, item: usize, absent: bool, four: bool, k: u
 }
 
 // How many annotation items a set has.
-pub fn set_count(s: &[u8], f: Frame, item: usize) -> Word
+pub fn set_count(s: &[u8], f: Frame, item: usize) -> WordAnswer
     ensures { λ r. ⌜ word-outcome r ≡ offsetCount (now (s .entry)) f item false false ⌝ }
 {
     offset_count(s, f, item, false, false)
 }
 
 // Where number k of a set's annotation items is.
-pub fn set_offset(s: &[u8], f: Frame, item: usize, k: u32) -> Word
+pub fn set_offset(s: &[u8], f: Frame, item: usize, k: u32) -> WordAnswer
     ensures { λ r. ⌜ word-outcome r ≡ offsetNumber (now (s .entry)) f item false false k ⌝ }
 {
     offset_number(s, f, item, false, false, k)
 }
 
 // How many sets a reference list has, absent ones too.
-pub fn reference_count(s: &[u8], f: Frame, item: usize) -> Word
+pub fn reference_count(s: &[u8], f: Frame, item: usize) -> WordAnswer
     ensures { λ r. ⌜ word-outcome r ≡ offsetCount (now (s .entry)) f item true true ⌝ }
 {
     offset_count(s, f, item, true, true)
 }
 
 // Where number k of a reference list's sets is, 0 where it is absent.
-pub fn reference_offset(s: &[u8], f: Frame, item: usize, k: u32) -> Word
+pub fn reference_offset(s: &[u8], f: Frame, item: usize, k: u32) -> WordAnswer
     ensures { λ r. ⌜ word-outcome r ≡ offsetNumber (now (s .entry)) f item true true k ⌝ }
 {
     offset_number(s, f, item, true, true, k)

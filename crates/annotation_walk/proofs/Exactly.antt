@@ -11,9 +11,9 @@ use Rattle.refusal.specs.Exact.{Exact, Present, Each}
 use Rattle.refusal.proofs.Exact.{same, answer-exact, bind-exact, exact-iff, present-exact, accepted-iff}
 use Rattle.word.specs.Words.{u32At}
 use Rattle.frame.specs.declared.Frame.{Frame}
-use Rattle.annotation_items.specs.Items.{Item}
+use Rattle.annotation_items.specs.Items.{AnnotationItem}
 use Rattle.annotation_lists.specs.Rules.{SetRule, ReferencesRule}
-use Rattle.annotation_items.specs.Rules.{ItemRule}
+use Rattle.annotation_items.specs.Rules.{AnnotationItemRule}
 use Rattle.annotation_lists.specs.Fixed.{entriesFrom}
 use Rattle.annotation_lists.proofs.Fixed.{entries-exact}
 use Rattle.annotation_lists.proofs.Exactly.{set-exact, references-exact}
@@ -27,15 +27,15 @@ module _ (s : List ℕ) (f : Frame) where
   abbrev word : ℕ → ℕ
   word p = u32At (f .order) s p
 
-  item-from-exact : (p : ℕ) → Exact (itemFrom s f p) (ItemRule s f (word p))
+  item-from-exact : (p : ℕ) → Exact (itemFrom s f p) (AnnotationItemRule s f (word p))
   unfolding itemFrom
   item-from-exact p = item-exact s f (word p)
 
   pub set-below-exact : (item : ℕ) → Exact (setBelow s f item) (SetBelow s f item)
   unfolding setBelow
   set-below-exact item =
-      exact-iff (bind-exact (SetRule s f item) (λ (o : List ℕ). Each (λ (k : ℕ). ItemRule s f (word (item + 4 + 4 * k))) (length o)) (set-exact s f item)
-      (λ o. entries-exact (itemFrom s f) 4 (item + 4) (length o) (λ (p : ℕ). ItemRule s f (word p)) item-from-exact))
+      exact-iff (bind-exact (SetRule s f item) (λ (o : List ℕ). Each (λ (k : ℕ). AnnotationItemRule s f (word (item + 4 + 4 * k))) (length o)) (set-exact s f item)
+      (λ o. entries-exact (itemFrom s f) 4 (item + 4) (length o) (λ (p : ℕ). AnnotationItemRule s f (word p)) item-from-exact))
       (λ l h. record { offsets = h .0; rule = h .1 .0; items = h .1 .1 })
       (λ l h. (h .offsets, (h .rule, h .items)))
 
@@ -80,20 +80,20 @@ module _ (s : List ℕ) (f : Frame) where
       (λ a p. (p .directory, (p .rule, (a .own, (p .own, (a .fields, (p .fields, (a .methods, (p .methods, (a .parameters, (p .parameters, λ i. record { set = p .set i; own = a .own; fields = a .fields; methods = a .methods; parameters = a .parameters })))))))))))
 
   -- one answer
-  pub set-below-same : (item : ℕ) (a b : List Item) → SetBelow s f item a → SetBelow s f item b → a ≡ b
+  pub set-below-same : (item : ℕ) (a b : List AnnotationItem) → SetBelow s f item a → SetBelow s f item b → a ≡ b
   set-below-same item = same (set-below-exact item)
 
-  pub references-below-same : (item : ℕ) (a b : List (Option (List Item))) → ReferencesBelow s f item a → ReferencesBelow s f item b → a ≡ b
+  pub references-below-same : (item : ℕ) (a b : List (Option (List AnnotationItem))) → ReferencesBelow s f item a → ReferencesBelow s f item b → a ≡ b
   references-below-same item = same (references-below-exact item)
 
   pub directory-below-same : (item : ℕ) (a b : Annotated) → DirectoryBelow s f item a → DirectoryBelow s f item b → a ≡ b
   directory-below-same item = same (directory-below-exact item)
 
   -- code that only checks accepts exactly where the rules hold of something
-  pub set-accepted-iff : (item : ℕ) → ((setBelow s f item >>= accepted) ≡ answer tt) ↔ ((l : List Item) × SetBelow s f item l)
+  pub set-accepted-iff : (item : ℕ) → ((setBelow s f item >>= accepted) ≡ answer tt) ↔ ((l : List AnnotationItem) × SetBelow s f item l)
   set-accepted-iff item = accepted-iff (set-below-exact item)
 
-  pub references-accepted-iff : (item : ℕ) → ((referencesBelow s f item >>= accepted) ≡ answer tt) ↔ ((l : List (Option (List Item))) × ReferencesBelow s f item l)
+  pub references-accepted-iff : (item : ℕ) → ((referencesBelow s f item >>= accepted) ≡ answer tt) ↔ ((l : List (Option (List AnnotationItem))) × ReferencesBelow s f item l)
   references-accepted-iff item = accepted-iff (references-below-exact item)
 
   pub directory-accepted-iff : (item : ℕ) → ((directoryBelow s f item >>= accepted) ≡ answer tt) ↔ ((a : Annotated) × DirectoryBelow s f item a)

@@ -19,20 +19,20 @@ use Rattle.refusal.proofs.Exact.{never}
 use Rattle.refusal.proofs.Kept.{on-checked, accepted-answer, accepted-refused, part-answer, part-refused, kept-part, kept-on, made-kept, unit-kept, absent-kept, present-kept}
 use Rattle.word.specs.Words.{u32At}
 use Rattle.frame.specs.declared.Frame.{Frame}
-use Rattle.annotation_directories.specs.declared.Head.{Head}
-use Rattle.refusal.specs.declared.Checked.{Checked}
-use Rattle.refusal.specs.declared.Checked.the-variants as C
-use Rattle.annotation_items.specs.declared.Visibility.{Visibility}
-use Rattle.annotation_items.specs.declared.Visibility.the-variants as N
-use Rattle.annotation_directories.specs.declared.HeadAnswer.the-variants as H
-use Rattle.annotation_lists.specs.declared.Word.{Word}
-use Rattle.annotation_lists.specs.declared.Word.the-variants as W
+use Rattle.annotation_directories.specs.declared.DirectoryHead.{DirectoryHead}
+use Rattle.refusal.specs.declared.CheckAnswer.{CheckAnswer}
+use Rattle.refusal.specs.declared.CheckAnswer.the-variants as C
+use Rattle.annotation_items.specs.declared.VisibilityAnswer.{VisibilityAnswer}
+use Rattle.annotation_items.specs.declared.VisibilityAnswer.the-variants as N
+use Rattle.annotation_directories.specs.declared.DirectoryHeadAnswer.the-variants as H
+use Rattle.annotation_lists.specs.declared.WordAnswer.{WordAnswer}
+use Rattle.annotation_lists.specs.declared.WordAnswer.the-variants as W
 use Rattle.annotation_lists.specs.Answers.{word-outcome}
 use Rattle.annotation_items.specs.Answers.{visibility-outcome}
 use Rattle.annotation_lists.specs.Fixed.{entriesFrom}
 use Rattle.annotation_lists.specs.Offsets.{offsetsAt, offsetCount}
 use Rattle.annotation_directories.specs.Directories.{Directory, directoryAt, directoryHead}
-use Rattle.annotation_items.specs.Items.{Item, itemAt, itemVisibility}
+use Rattle.annotation_items.specs.Items.{AnnotationItem, itemAt, itemVisibility}
 use Rattle.annotation_lists.proofs.Fixed.{Along, along-first, along-next, along-stop, along-done, along-four, along-eight}
 use Rattle.annotation_lists.proofs.Laws.{on-word, count-room}
 use Rattle.annotation_directories.proofs.Laws.{on-head, directory-room}
@@ -55,25 +55,25 @@ module _ (s : List ℕ) (f : Frame) {v : ℕ} (p : ℕ) where
 
 module _ (s : List ℕ) (f : Frame) {from count left at : ℕ} where
   -- over annotation items
-  module _ (h : Along (itemFrom s f) s 4 from count left at) {v : ℕ} {x : Visibility} (l : 0 < left) (read : v ≡ u32At (f .order) s at) (e : visibility-outcome x ≡ itemVisibility s f v) where
+  module _ (h : Along (itemFrom s f) s 4 from count left at) {v : ℕ} {x : VisibilityAnswer} (l : 0 < left) (read : v ≡ u32At (f .order) s at) (e : visibility-outcome x ≡ itemVisibility s f v) where
     pub item-next : {n : ℕ} → x ≡ N.Got n → Along (itemFrom s f) s 4 from count (left - 1) (at + 4)
     unfolding itemVisibility
-    item-next t = along-next h l (sym (part-answer (λ (a : Item). a .visibility) (itemAt s f v) (sym e ∙ ap visibility-outcome t) .1 .0) ∙ at-item s f at read)
+    item-next t = along-next h l (sym (part-answer (λ (a : AnnotationItem). a .visibility) (itemAt s f v) (sym e ∙ ap visibility-outcome t) .1 .0) ∙ at-item s f at read)
 
-    pub item-stop : {B : Type 0} {r : Refusal} (k : List Item → Outcome B) → x ≡ N.Refused r → refused r ≡ (entriesFrom (itemFrom s f) 4 from count >>= k)
+    pub item-stop : {B : Type 0} {r : Refusal} (k : List AnnotationItem → Outcome B) → x ≡ N.Refused r → refused r ≡ (entriesFrom (itemFrom s f) 4 from count >>= k)
     unfolding itemVisibility
-    item-stop k t = along-stop h k l (sym (part-refused (λ (a : Item). a .visibility) (itemAt s f v) (sym e ∙ ap visibility-outcome t)) ∙ at-item s f at read)
+    item-stop k t = along-stop h k l (sym (part-refused (λ (a : AnnotationItem). a .visibility) (itemAt s f v) (sym e ∙ ap visibility-outcome t)) ∙ at-item s f at read)
 
   -- over sets, absent ones too
-  module _ (h : Along (setFrom s f) s 4 from count left at) {v : ℕ} {x : Checked} (l : 0 < left) (read : v ≡ u32At (f .order) s at) (e : checked-outcome x ≡ ownAccepted s f v) where
+  module _ (h : Along (setFrom s f) s 4 from count left at) {v : ℕ} {x : CheckAnswer} (l : 0 < left) (read : v ≡ u32At (f .order) s at) (e : checked-outcome x ≡ ownAccepted s f v) where
     pub set-next : x ≡ C.Accepted → Along (setFrom s f) s 4 from count (left - 1) (at + 4)
     set-next t = along-next h l (sym (accepted-answer (present v (setBelow s f v)) (sym (ap checked-outcome t) ∙ e) .1) ∙ at-set s f at read)
 
-    pub set-stop : {B : Type 0} {r : Refusal} (k : List (Option (List Item)) → Outcome B) → x ≡ C.Refused r → refused r ≡ (entriesFrom (setFrom s f) 4 from count >>= k)
+    pub set-stop : {B : Type 0} {r : Refusal} (k : List (Option (List AnnotationItem)) → Outcome B) → x ≡ C.Refused r → refused r ≡ (entriesFrom (setFrom s f) 4 from count >>= k)
     set-stop k t = along-stop h k l (sym (accepted-refused (present v (setBelow s f v)) (sym (ap checked-outcome t) ∙ e)) ∙ at-set s f at read)
 
   -- over what entries lead to
-  module _ (parameter : Bool) (h : Along (oneFrom s f parameter) s 8 from count left at) {v : ℕ} {x : Checked} (l : 0 < left) (read : v ≡ u32At (f .order) s (at + 4)) (e : checked-outcome x ≡ oneBelow s f parameter v) where
+  module _ (parameter : Bool) (h : Along (oneFrom s f parameter) s 8 from count left at) {v : ℕ} {x : CheckAnswer} (l : 0 < left) (read : v ≡ u32At (f .order) s (at + 4)) (e : checked-outcome x ≡ oneBelow s f parameter v) where
     pub one-next : x ≡ C.Accepted → Along (oneFrom s f parameter) s 8 from count (left - 1) (at + 8)
     one-next t = along-next h l (sym (ap checked-outcome t) ∙ e ∙ at-one s f at parameter read)
 
@@ -126,7 +126,7 @@ module _ (s : List ℕ) (f : Frame) where
   entry-alike below parameter h p = made-kept _ (below (u32At (f .order) s (p + 4))) ∙ h (u32At (f .order) s (p + 4)) ∙ unit-kept (oneBelow s f parameter (u32At (f .order) s (p + 4)))
 
   -- the three lists: the class's set, then what the entries lead to
-  unfoldable pub lists-below : ℕ → Head → Outcome Unit
+  unfoldable pub lists-below : ℕ → DirectoryHead → Outcome Unit
   lists-below item h = do
     u ← ownAccepted s f (h .set)
     u ← belowPass s f false (item + 16) (h .fields)
@@ -141,7 +141,7 @@ module _ (s : List ℕ) (f : Frame) where
   unfolding oneBelow
   below-references from count = entries-alike _ _ (entry-alike (referencesBelow s f) true (λ p. refl)) 8 from count
 
-  pub lists-by : (item : ℕ) (h : Head) {y : Outcome Unit} → y ≡ lists-below item h → y ≡ listsBelow s f item h
+  pub lists-by : (item : ℕ) (h : DirectoryHead) {y : Outcome Unit} → y ≡ lists-below item h → y ≡ listsBelow s f item h
   unfolding headBelow lists-below
   lists-by item h e =
       e ∙ sym (kept-on (present (h .set) (setBelow s f (h .set))) _ _ _ refl (λ o t.
@@ -150,15 +150,15 @@ module _ (s : List ℕ) (f : Frame) where
       made-kept _ (entriesFrom (entryFrom s f (referencesBelow s f)) 8 (item + 16 + 8 * h .fields + 8 * h .methods) (h .parameters))
       ∙ below-references (item + 16 + 8 * h .fields + 8 * h .methods) (h .parameters)))))
 
-  pub directory-by : (item : ℕ) {y : Outcome Unit} → y ≡ (directoryHead s f item >>= λ (h : Head). listsBelow s f item h) → y ≡ (directoryBelow s f item >>= accepted)
+  pub directory-by : (item : ℕ) {y : Outcome Unit} → y ≡ (directoryHead s f item >>= λ (h : DirectoryHead). listsBelow s f item h) → y ≡ (directoryBelow s f item >>= accepted)
   unfolding directoryBelow directoryHead
-  directory-by item e = e ∙ sym (kept-part (directoryAt s f item) (λ (d : Directory). d .head) _ (λ (h : Head). listsBelow s f item h) (λ d t. refl))
+  directory-by item e = e ∙ sym (kept-part (directoryAt s f item) (λ (d : Directory). d .head) _ (λ (h : DirectoryHead). listsBelow s f item h) (λ d t. refl))
 
 -- ---- what code adds up fits
-pub four-fits : (s : List ℕ) (f : Frame) (item : ℕ) (absent four : Bool) {x : Word} {n : ℕ} → word-outcome x ≡ offsetCount s f item absent four → x ≡ W.Got n → Fits w64 (length s) → Fits w64 (item + 4)
+pub four-fits : (s : List ℕ) (f : Frame) (item : ℕ) (absent four : Bool) {x : WordAnswer} {n : ℕ} → word-outcome x ≡ offsetCount s f item absent four → x ≡ W.Got n → Fits w64 (length s) → Fits w64 (item + 4)
 four-fits s f item absent four e t z = let h = count-room s f item absent four e t in omega arith
 
-module _ (s : List ℕ) (item : ℕ) (h : Head) (room : item + 16 + 8 * h .fields + 8 * h .methods + 8 * h .parameters ≤ length s) where
+module _ (s : List ℕ) (item : ℕ) (h : DirectoryHead) (room : item + 16 + 8 * h .fields + 8 * h .methods + 8 * h .parameters ≤ length s) where
   pub fields-room : item + 16 + 8 * h .fields ≤ length s
   fields-room = omega arith
 

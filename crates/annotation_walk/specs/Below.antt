@@ -7,11 +7,11 @@ use lib.ListN.{length}
 use Rattle.refusal.specs.Outcome.{Outcome, answer, _>>=_, present, accepted}
 use Rattle.word.specs.Words.{u32At}
 use Rattle.frame.specs.declared.Frame.{Frame}
-use Rattle.annotation_directories.specs.declared.Head.{Head}
+use Rattle.annotation_directories.specs.declared.DirectoryHead.{DirectoryHead}
 use Rattle.annotation_lists.specs.Fixed.{entriesFrom}
 use Rattle.annotation_lists.specs.Offsets.{setAt, referencesAt}
 use Rattle.annotation_directories.specs.Directories.{directoryAt}
-use Rattle.annotation_items.specs.Items.{Item, itemAt}
+use Rattle.annotation_items.specs.Items.{AnnotationItem, itemAt}
 
 -- an entry: its index, its offset, and what lies below it
 pub record Under (B : Type 0) : Type 0 where
@@ -22,28 +22,28 @@ pub record Under (B : Type 0) : Type 0 where
 -- what a directory says with all below it: the class's annotations and where their set is (0 for none), each field's and method's, and each parameter's of a method
 pub record Annotated : Type 0 where
   pub set : ℕ
-  pub own : Option (List Item)
-  pub fields : List (Under (List Item))
-  pub methods : List (Under (List Item))
-  pub parameters : List (Under (List (Option (List Item))))
+  pub own : Option (List AnnotationItem)
+  pub fields : List (Under (List AnnotationItem))
+  pub methods : List (Under (List AnnotationItem))
+  pub parameters : List (Under (List (Option (List AnnotationItem))))
 
 module _ (s : List ℕ) (f : Frame) where
   -- the item whose offset stands at a place
-  unfoldable pub itemFrom : ℕ → Outcome Item
+  unfoldable pub itemFrom : ℕ → Outcome AnnotationItem
   itemFrom p = itemAt s f (u32At (f .order) s p)
 
   -- a set: its own rules, then its items in order
-  unfoldable pub setBelow : ℕ → Outcome (List Item)
+  unfoldable pub setBelow : ℕ → Outcome (List AnnotationItem)
   setBelow item = do
     l ← setAt s f item
     entriesFrom itemFrom 4 (item + 4) (length l)
 
   -- the set whose offset stands at a place, none where it is absent
-  unfoldable pub setFrom : ℕ → Outcome (Option (List Item))
+  unfoldable pub setFrom : ℕ → Outcome (Option (List AnnotationItem))
   setFrom p = present (u32At (f .order) s p) (setBelow (u32At (f .order) s p))
 
   -- a reference list: its own rules, then its sets in order
-  unfoldable pub referencesBelow : ℕ → Outcome (List (Option (List Item)))
+  unfoldable pub referencesBelow : ℕ → Outcome (List (Option (List AnnotationItem)))
   referencesBelow item = do
     l ← referencesAt s f item
     entriesFrom setFrom 4 (item + 4) (length l)
@@ -56,7 +56,7 @@ module _ (s : List ℕ) (f : Frame) where
       answer (record { index = u32At (f .order) s p; offset = u32At (f .order) s (p + 4); below = b })
 
   -- a directory: its own rules, then class, fields, methods, parameters
-  unfoldable pub headBelow : ℕ → Head → Outcome Annotated
+  unfoldable pub headBelow : ℕ → DirectoryHead → Outcome Annotated
   headBelow item h = do
     own ← present (h .set) (setBelow (h .set))
     fields ← entriesFrom (entryFrom setBelow) 8 (item + 16) (h .fields)
@@ -99,5 +99,5 @@ module _ (s : List ℕ) (f : Frame) where
   abbrev pub belowPass : Bool → ℕ → ℕ → Outcome Unit
   belowPass parameter from count = entriesFrom (oneFrom parameter) 8 from count >>= accepted
 
-  abbrev pub listsBelow : ℕ → Head → Outcome Unit
+  abbrev pub listsBelow : ℕ → DirectoryHead → Outcome Unit
   listsBelow item h = headBelow item h >>= accepted

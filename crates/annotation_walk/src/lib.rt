@@ -1,11 +1,11 @@
 // Going over annotation sets, reference lists and directories with all that lies below them: own rules first, then the items pointed at, in
 // stored order. Shared items are gone over each time they are reached.
-use annotation_directories::Head;
-use annotation_directories::HeadAnswer;
-use annotation_items::Visibility;
-use annotation_lists::Word;
+use annotation_directories::DirectoryHead;
+use annotation_directories::DirectoryHeadAnswer;
+use annotation_items::VisibilityAnswer;
+use annotation_lists::WordAnswer;
 use frame::Frame;
-use refusal::Checked;
+use refusal::CheckAnswer;
 ghost use mathlib.Core.Path.{_≡_};
 ghost use mathlib.Core.Bool.{true, false};
 ghost use Prim.Native.Nat.{_+_, _*_, _≤_};
@@ -15,7 +15,7 @@ ghost use Rattle.annotation_walk.specs.Below.{setAccepted, referencesAcc
 ghost use Rattle.annotation_walk.specs.Below.{itemsPass, ownAccepted, setsPass, oneBelow, belowPass, listsBelow};
 
 // The annotation items whose offsets stand from a place on.
-fn items_pass(s: &[u8], f: Frame, from: usize, count: u32) -> Checked
+fn items_pass(s: &[u8], f: Frame, from: usize, count: u32) -> CheckAnswer
     requires { ⌜ from + 4 * count ≤ length (now s) ⌝ }
     ensures { λ r. ⌜ checked-outcome r ≡ itemsPass (now (s .entry)) f from count ⌝ }
 {
@@ -24,40 +24,40 @@ fn items_pass(s: &[u8], f: Frame, from: usize, count: u32) -> Checked
     let mut left = count;
     while 0 < left {
         match annotation_items::annotation_item(s, f, word::u32_at(s, at, order) as usize) {
-            Visibility::Refused(r) => {
-                return Checked::Refused(r);
+            VisibilityAnswer::Refused(r) => {
+                return CheckAnswer::Refused(r);
             }
-            Visibility::Got(_) => {
+            VisibilityAnswer::Got(_) => {
                 at += 4;
             }
         }
         left -= 1;
     }
-    Checked::Accepted
+    CheckAnswer::Accepted
 }
 
 // A set with all below it.
-pub fn check_set(s: &[u8], f: Frame, item: usize) -> Checked
+pub fn check_set(s: &[u8], f: Frame, item: usize) -> CheckAnswer
     ensures { λ r. ⌜ checked-outcome r ≡ setAccepted (now (s .entry)) f item ⌝ }
 {
     match annotation_lists::offset_count(s, f, item, false, false) {
-        Word::Refused(r) => Checked::Refused(r),
-        Word::Got(count) => items_pass(s, f, item + 4, count),
+        WordAnswer::Refused(r) => CheckAnswer::Refused(r),
+        WordAnswer::Got(count) => items_pass(s, f, item + 4, count),
     }
 }
 
 // The set at an offset with all below it, if it is not absent.
-fn own_set(s: &[u8], f: Frame, offset: u32) -> Checked
+fn own_set(s: &[u8], f: Frame, offset: u32) -> CheckAnswer
     ensures { λ r. ⌜ checked-outcome r ≡ ownAccepted (now (s .entry)) f offset ⌝ }
 {
     if offset <= 0 {
-        return Checked::Accepted;
+        return CheckAnswer::Accepted;
     }
     check_set(s, f, offset as usize)
 }
 
 // The sets whose offsets stand from a place on.
-fn sets_pass(s: &[u8], f: Frame, from: usize, count: u32) -> Checked
+fn sets_pass(s: &[u8], f: Frame, from: usize, count: u32) -> CheckAnswer
     requires { ⌜ from + 4 * count ≤ length (now s) ⌝ }
     ensures { λ r. ⌜ checked-outcome r ≡ setsPass (now (s .entry)) f from count ⌝ }
 {
@@ -66,30 +66,30 @@ fn sets_pass(s: &[u8], f: Frame, from: usize, count: u32) -> Checked
     let mut left = count;
     while 0 < left {
         match own_set(s, f, word::u32_at(s, at, order)) {
-            Checked::Refused(r) => {
-                return Checked::Refused(r);
+            CheckAnswer::Refused(r) => {
+                return CheckAnswer::Refused(r);
             }
-            Checked::Accepted => {
+            CheckAnswer::Accepted => {
                 at += 4;
             }
         }
         left -= 1;
     }
-    Checked::Accepted
+    CheckAnswer::Accepted
 }
 
 // A reference list with all below it.
-pub fn check_references(s: &[u8], f: Frame, item: usize) -> Checked
+pub fn check_references(s: &[u8], f: Frame, item: usize) -> CheckAnswer
     ensures { λ r. ⌜ checked-outcome r ≡ referencesAccepted (now (s .entry)) f item ⌝ }
 {
     match annotation_lists::reference_count(s, f, item) {
-        Word::Refused(r) => Checked::Refused(r),
-        Word::Got(count) => sets_pass(s, f, item + 4, count),
+        WordAnswer::Refused(r) => CheckAnswer::Refused(r),
+        WordAnswer::Got(count) => sets_pass(s, f, item + 4, count),
     }
 }
 
 // What an entry leads to: a reference list for a parameter, else a set.
-fn one_below(s: &[u8], f: Frame, parameter: bool, offset: usize) -> Checked
+fn one_below(s: &[u8], f: Frame, parameter: bool, offset: usize) -> CheckAnswer
     ensures { λ r. ⌜ checked-outcome r ≡ oneBelow (now (s .entry)) f parameter offset ⌝ }
 {
     if parameter {
@@ -99,7 +99,7 @@ fn one_below(s: &[u8], f: Frame, parameter: bool, offset: usize) -> Checked
 }
 
 // What the entries from a place on lead to.
-fn below_pass(s: &[u8], f: Frame, parameter: bool, from: usize, count: u32) -> Checked
+fn below_pass(s: &[u8], f: Frame, parameter: bool, from: usize, count: u32) -> CheckAnswer
     requires { ⌜ from + 8 * count ≤ length (now s) ⌝ }
     ensures { λ r. ⌜ checked-outcome r ≡ belowPass (now (s .entry)) f parameter from count ⌝ }
 {
@@ -108,31 +108,31 @@ fn below_pass(s: &[u8], f: Frame, parameter: bool, from: usize, count: u32) -> C
     let mut left = count;
     while 0 < left {
         match one_below(s, f, parameter, word::u32_at(s, at + 4, order) as usize) {
-            Checked::Refused(r) => {
-                return Checked::Refused(r);
+            CheckAnswer::Refused(r) => {
+                return CheckAnswer::Refused(r);
             }
-            Checked::Accepted => {
+            CheckAnswer::Accepted => {
                 at += 8;
             }
         }
         left -= 1;
     }
-    Checked::Accepted
+    CheckAnswer::Accepted
 }
 
 // Below the class, the fields, the methods and the parameters of a directory whose three lists lie within the slice.
-fn lists_below(s: &[u8], f: Frame, item: usize, h: Head) -> Checked
+fn lists_below(s: &[u8], f: Frame, item: usize, h: DirectoryHead) -> CheckAnswer
     requires { ⌜ item + 16 + 8 * h .fields + 8 * h .methods + 8 * h .parameters ≤ length (now s) ⌝ }
     ensures { λ r. ⌜ checked-outcome r ≡ listsBelow (now (s .entry)) f item h ⌝ }
 {
     let methods = item + 16 + 8 * h.fields as usize;
     match own_set(s, f, h.set) {
-        Checked::Refused(r) => Checked::Refused(r),
-        Checked::Accepted => match below_pass(s, f, false, item + 16, h.fields) {
-            Checked::Refused(r) => Checked::Refused(r),
-            Checked::Accepted => match below_pass(s, f, false, methods, h.methods) {
-                Checked::Refused(r) => Checked::Refused(r),
-                Checked::Accepted => {
+        CheckAnswer::Refused(r) => CheckAnswer::Refused(r),
+        CheckAnswer::Accepted => match below_pass(s, f, false, item + 16, h.fields) {
+            CheckAnswer::Refused(r) => CheckAnswer::Refused(r),
+            CheckAnswer::Accepted => match below_pass(s, f, false, methods, h.methods) {
+                CheckAnswer::Refused(r) => CheckAnswer::Refused(r),
+                CheckAnswer::Accepted => {
                     below_pass(s, f, true, methods + 8 * h.methods as usize, h.parameters)
                 }
             },
@@ -141,11 +141,11 @@ fn lists_below(s: &[u8], f: Frame, item: usize, h: Head) -> Checked
 }
 
 // A directory with all below it.
-pub fn check_directory(s: &[u8], f: Frame, item: usize) -> Checked
+pub fn check_directory(s: &[u8], f: Frame, item: usize) -> CheckAnswer
     ensures { λ r. ⌜ checked-outcome r ≡ directoryAccepted (now (s .entry)) f item ⌝ }
 {
     match annotation_directories::directory(s, f, item) {
-        HeadAnswer::Refused(r) => Checked::Refused(r),
-        HeadAnswer::Got(h) => lists_below(s, f, item, h),
+        DirectoryHeadAnswer::Refused(r) => CheckAnswer::Refused(r),
+        DirectoryHeadAnswer::Got(h) => lists_below(s, f, item, h),
     }
 }

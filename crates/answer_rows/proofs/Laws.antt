@@ -15,7 +15,7 @@ use Rattle.decoded_value.specs.declared.Value.{Value}
 use Rattle.decoded_value.specs.Shown.{value-shown}
 use Rattle.table_readers.specs.declared.CountAnswer as Count
 use Rattle.table_readers.specs.Answers.{count-outcome}
-use Rattle.table_readers.specs.declared.EntryAnswer as Entry
+use Rattle.table_readers.specs.declared.MapEntryAnswer as Entry
 use Rattle.table_readers.specs.Answers.{entry-outcome}
 use Rattle.ids.specs.declared.HandleAnswer as Handle
 use Rattle.ids.specs.Answers.{handle-outcome}
@@ -25,9 +25,9 @@ use Rattle.ids.specs.declared.IndexAnswer as Index
 use Rattle.ids.specs.Answers.{index-outcome}
 use Rattle.ids.specs.declared.ProtoAnswer as Proto
 use Rattle.ids.specs.Answers.{proto-outcome}
-use Rattle.ids.specs.declared.MemberAnswer as Member
-use Rattle.ids.specs.Answers.{member-outcome}
-use Rattle.type_list.specs.declared.CountAnswer as List
+use Rattle.ids.specs.declared.MemberIdAnswer as Member
+use Rattle.ids.specs.Answers.{member-id-outcome}
+use Rattle.type_list.specs.declared.TypeCountAnswer as List
 use Rattle.type_list.specs.Answers.{count-outcome as list-outcome}
 use Rattle.type_list.specs.declared.TypeAnswer as Listed
 use Rattle.type_list.specs.Answers.{type-outcome as listed-outcome}
@@ -37,19 +37,19 @@ use Rattle.value_readers.specs.declared.ArrayAnswer as Array
 use Rattle.value_readers.specs.Answers.{array-outcome}
 use Rattle.value_readers.specs.declared.BodyAnswer as Body
 use Rattle.value_readers.specs.Answers.{body-outcome}
-use Rattle.value_bodies.specs.declared.Count as Size
+use Rattle.value_bodies.specs.declared.BodySizeAnswer as Size
 use Rattle.value_bodies.specs.Answers.{count-outcome as size-outcome}
-use Rattle.value_bodies.specs.declared.Picked as Picked
+use Rattle.value_bodies.specs.declared.PickedAnswer as Picked
 use Rattle.value_bodies.specs.Answers.{picked-outcome}
-use Rattle.value_bodies.specs.declared.Element as Element
+use Rattle.value_bodies.specs.declared.ElementAnswer as Element
 use Rattle.value_bodies.specs.Answers.{element-outcome}
 use Rattle.class_ids.specs.declared.Class.{Class}
 use Rattle.class_ids.specs.declared.ClassAnswer.{ClassAnswer}
 use Rattle.class_ids.specs.Answers.{class-outcome}
 use Rattle.header.specs.declared.HeaderAnswer.{HeaderAnswer}
 use Rattle.header.specs.Answers.{header-outcome}
-use Rattle.string_ids.specs.declared.Found.{Found}
-use Rattle.string_ids.specs.declared.Lookup as Lookup
+use Rattle.string_ids.specs.declared.FoundString.{FoundString}
+use Rattle.string_ids.specs.declared.LookupAnswer as Lookup
 use Rattle.string_ids.specs.Answers.{found-number, lookup-outcome}
 use Rattle.answer_rows.specs.Words.{class-words, joined-words, maybe-word, signature-words, array-words, bits-of, body-words, element-words, entry-words, handle-words, header-words, member-words, named-words, number-words, order-word, ordered-words, proto-words, row, text-words, told, told-if, value-words}
 
@@ -75,7 +75,7 @@ arm means words x c e q = q ∙ ap (λ (u : _). told words (means u)) (sym e)
 pub count-arm : (x c : Count.CountAnswer) {y : List ℕ} → x ≡ c → y ≡ told number-words (count-outcome c) → y ≡ told number-words (count-outcome x)
 count-arm = arm count-outcome number-words
 
-pub entry-arm : (x c : Entry.EntryAnswer) {y : List ℕ} → x ≡ c → y ≡ told entry-words (entry-outcome c) → y ≡ told entry-words (entry-outcome x)
+pub entry-arm : (x c : Entry.MapEntryAnswer) {y : List ℕ} → x ≡ c → y ≡ told entry-words (entry-outcome c) → y ≡ told entry-words (entry-outcome x)
 entry-arm = arm entry-outcome entry-words
 
 pub handle-arm : (x c : Handle.HandleAnswer) {y : List ℕ} → x ≡ c → y ≡ told handle-words (handle-outcome c) → y ≡ told handle-words (handle-outcome x)
@@ -90,10 +90,10 @@ index-arm = arm index-outcome number-words
 pub proto-arm : (x c : Proto.ProtoAnswer) {y : List ℕ} → x ≡ c → y ≡ told proto-words (proto-outcome c) → y ≡ told proto-words (proto-outcome x)
 proto-arm = arm proto-outcome proto-words
 
-pub member-arm : (x c : Member.MemberAnswer) {y : List ℕ} → x ≡ c → y ≡ told member-words (member-outcome c) → y ≡ told member-words (member-outcome x)
-member-arm = arm member-outcome member-words
+pub member-arm : (x c : Member.MemberIdAnswer) {y : List ℕ} → x ≡ c → y ≡ told member-words (member-id-outcome c) → y ≡ told member-words (member-id-outcome x)
+member-arm = arm member-id-outcome member-words
 
-pub list-arm : (x c : List.CountAnswer) {y : List ℕ} → x ≡ c → y ≡ told number-words (list-outcome c) → y ≡ told number-words (list-outcome x)
+pub list-arm : (x c : List.TypeCountAnswer) {y : List ℕ} → x ≡ c → y ≡ told number-words (list-outcome c) → y ≡ told number-words (list-outcome x)
 list-arm = arm list-outcome number-words
 
 pub listed-arm : (x c : Listed.TypeAnswer) {y : List ℕ} → x ≡ c → y ≡ told number-words (listed-outcome c) → y ≡ told number-words (listed-outcome x)
@@ -108,13 +108,13 @@ array-arm = arm array-outcome array-words
 pub body-arm : (x c : Body.BodyAnswer) {y : List ℕ} → x ≡ c → y ≡ told body-words (body-outcome c) → y ≡ told body-words (body-outcome x)
 body-arm = arm body-outcome body-words
 
-pub size-arm : (x c : Size.Count) {y : List ℕ} → x ≡ c → y ≡ told number-words (size-outcome c) → y ≡ told number-words (size-outcome x)
+pub size-arm : (x c : Size.BodySizeAnswer) {y : List ℕ} → x ≡ c → y ≡ told number-words (size-outcome c) → y ≡ told number-words (size-outcome x)
 size-arm = arm size-outcome number-words
 
-pub picked-arm : (x c : Picked.Picked) {y : List ℕ} → x ≡ c → y ≡ told value-words (picked-outcome c) → y ≡ told value-words (picked-outcome x)
+pub picked-arm : (x c : Picked.PickedAnswer) {y : List ℕ} → x ≡ c → y ≡ told value-words (picked-outcome c) → y ≡ told value-words (picked-outcome x)
 picked-arm = arm picked-outcome value-words
 
-pub element-arm : (x c : Element.Element) {y : List ℕ} → x ≡ c → y ≡ told element-words (element-outcome c) → y ≡ told element-words (element-outcome x)
+pub element-arm : (x c : Element.ElementAnswer) {y : List ℕ} → x ≡ c → y ≡ told element-words (element-outcome c) → y ≡ told element-words (element-outcome x)
 element-arm = arm element-outcome element-words
 
 pub ruleset arms = (count-arm, entry-arm, handle-arm, text-arm, index-arm, proto-arm, member-arm, list-arm, listed-arm, flags-arm, array-arm, body-arm, size-arm, picked-arm, element-arm, needs)
@@ -134,10 +134,10 @@ header-arm words = arm header-outcome words
 pub class-arm : (x c : ClassAnswer) {y : List ℕ} → x ≡ c → y ≡ told class-words (class-outcome c) → y ≡ told class-words (class-outcome x)
 class-arm = arm class-outcome class-words
 
-pub lookup-arm : (x c : Lookup.Lookup) {y : List ℕ} → x ≡ c → y ≡ told-if number-words (lookup-outcome c) → y ≡ told-if number-words (lookup-outcome x)
-lookup-arm x c e q = q ∙ ap (λ (u : Lookup.Lookup). told-if number-words (lookup-outcome u)) (sym e)
+pub lookup-arm : (x c : Lookup.LookupAnswer) {y : List ℕ} → x ≡ c → y ≡ told-if number-words (lookup-outcome c) → y ≡ told-if number-words (lookup-outcome x)
+lookup-arm x c e q = q ∙ ap (λ (u : Lookup.LookupAnswer). told-if number-words (lookup-outcome u)) (sym e)
 
-pub found-arm : (x c : Found) {y : List ℕ} → x ≡ c → y ≡ told-if number-words (lookup-outcome (Lookup.the-variants.Got c)) → y ≡ told-if number-words (lookup-outcome (Lookup.the-variants.Got x))
-found-arm x c e q = q ∙ ap (λ (u : Found). told-if number-words (lookup-outcome (Lookup.the-variants.Got u))) (sym e)
+pub found-arm : (x c : FoundString) {y : List ℕ} → x ≡ c → y ≡ told-if number-words (lookup-outcome (Lookup.the-variants.Got c)) → y ≡ told-if number-words (lookup-outcome (Lookup.the-variants.Got x))
+found-arm x c e q = q ∙ ap (λ (u : FoundString). told-if number-words (lookup-outcome (Lookup.the-variants.Got u))) (sym e)
 
 pub ruleset heads = (ordered, joined, header-arm, class-arm, lookup-arm, found-arm, needs)

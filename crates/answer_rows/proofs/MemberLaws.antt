@@ -6,22 +6,22 @@ use mathlib.Core.Option.{Option}
 use mathlib.Core.List.{List, [], _∷_}
 use borrow.Author.Needs.{needs}
 use Rattle.refusal.specs.Outcome.{Outcome, answer}
-use Rattle.code_item.specs.declared.Cover.{Cover}
+use Rattle.code_item.specs.declared.CoveringTry.{CoveringTry}
 use Rattle.code_item.specs.Answers.{cover-meant}
-use Rattle.class_readers.specs.declared.MaybeData as Data
-use Rattle.class_readers.specs.declared.MaybeMember as Found
-use Rattle.class_readers.specs.declared.MaybeCount as Written
-use Rattle.code_readers.specs.declared.MaybeCode as Code
-use Rattle.code_readers.specs.declared.MaybeTry as Try
-use Rattle.code_readers.specs.declared.MaybeHandler as Handler
-use Rattle.code_readers.specs.declared.MaybePair as Pair
-use Rattle.debug_readers.specs.declared.MaybeDebug as Debug
-use Rattle.debug_readers.specs.declared.MaybeName as Name
-use Rattle.code_item.specs.declared.CoverAnswer as Cover
-use Rattle.refusal.specs.declared.Checked as Checked
+use Rattle.class_readers.specs.declared.MaybeDataAnswer as Data
+use Rattle.class_readers.specs.declared.MaybeMemberAnswer as Found
+use Rattle.class_readers.specs.declared.MaybeCountAnswer as Written
+use Rattle.code_readers.specs.declared.MaybeCodeAnswer as Code
+use Rattle.code_readers.specs.declared.MaybeTryAnswer as Try
+use Rattle.code_readers.specs.declared.MaybeHandlerAnswer as Handler
+use Rattle.code_readers.specs.declared.MaybePairAnswer as Pair
+use Rattle.debug_readers.specs.declared.MaybeDebugAnswer as Debug
+use Rattle.debug_readers.specs.declared.MaybeNameAnswer as Name
+use Rattle.code_item.specs.declared.CoveringTryAnswer as Cover
+use Rattle.refusal.specs.declared.CheckAnswer as Checked
 use Rattle.directory_readers.specs.declared.DirectoryAnswer as Directory
-use Rattle.annotation_directories.specs.declared.EntryAnswer as Place
-use Rattle.annotation_lists.specs.declared.Word as Word
+use Rattle.annotation_directories.specs.declared.DirectoryEntryAnswer as Place
+use Rattle.annotation_lists.specs.declared.WordAnswer as Word
 use Rattle.annotation_items.specs.declared.SummaryAnswer as Annotation
 use Rattle.class_readers.specs.Answers.{maybe-data as data-outcome, maybe-member as found-outcome, maybe-count as written-outcome}
 use Rattle.code_readers.specs.Answers.{maybe-code as code-outcome, maybe-try as try-outcome, maybe-handler as handler-outcome, maybe-pair as pair-outcome}
@@ -30,7 +30,7 @@ use Rattle.code_item.specs.Answers.{cover-outcome}
 use Rattle.refusal.specs.Answers.{checked-outcome}
 use Rattle.directory_readers.specs.Answers.{directory-outcome}
 use Rattle.annotation_lists.specs.Answers.{word-outcome}
-use Rattle.annotation_directories.specs.Answers.{entry-outcome as place-outcome}
+use Rattle.annotation_directories.specs.Answers.{directory-entry-outcome as place-outcome}
 use Rattle.annotation_items.specs.Answers.{summary-outcome as annotation-outcome}
 use Rattle.answer_rows.specs.Words.{annotation-words, counts-words, debug-words, directory-words, found-words, handler-words, no-words, number-words, option-words, outline-words, pair-words, place-words, row, told, told-if, try-words}
 use Rattle.answer_rows.proofs.Laws.{arm}
@@ -38,53 +38,53 @@ use Rattle.answer_rows.proofs.Laws.{arm}
 arm-if : {X A : Type 0} (means : X → Outcome (Option A)) (words : A → List ℕ) (x c : X) {y : List ℕ} → x ≡ c → y ≡ told-if words (means c) → y ≡ told-if words (means x)
 arm-if means words x c e q = q ∙ ap (λ (u : _). told-if words (means u)) (sym e)
 
-pub data-arm : (x c : Data.MaybeData) {y : List ℕ} → x ≡ c → y ≡ told-if counts-words (data-outcome c) → y ≡ told-if counts-words (data-outcome x)
+pub data-arm : (x c : Data.MaybeDataAnswer) {y : List ℕ} → x ≡ c → y ≡ told-if counts-words (data-outcome c) → y ≡ told-if counts-words (data-outcome x)
 data-arm = arm-if data-outcome counts-words
 
-pub found-arm : (x c : Found.MaybeMember) {y : List ℕ} → x ≡ c → y ≡ told-if found-words (found-outcome c) → y ≡ told-if found-words (found-outcome x)
+pub found-arm : (x c : Found.MaybeMemberAnswer) {y : List ℕ} → x ≡ c → y ≡ told-if found-words (found-outcome c) → y ≡ told-if found-words (found-outcome x)
 found-arm = arm-if found-outcome found-words
 
-pub written-arm : (x c : Written.MaybeCount) {y : List ℕ} → x ≡ c → y ≡ told-if number-words (written-outcome c) → y ≡ told-if number-words (written-outcome x)
+pub written-arm : (x c : Written.MaybeCountAnswer) {y : List ℕ} → x ≡ c → y ≡ told-if number-words (written-outcome c) → y ≡ told-if number-words (written-outcome x)
 written-arm = arm-if written-outcome number-words
 
-pub code-arm : (x c : Code.MaybeCode) {y : List ℕ} → x ≡ c → y ≡ told-if outline-words (code-outcome c) → y ≡ told-if outline-words (code-outcome x)
+pub code-arm : (x c : Code.MaybeCodeAnswer) {y : List ℕ} → x ≡ c → y ≡ told-if outline-words (code-outcome c) → y ≡ told-if outline-words (code-outcome x)
 code-arm = arm-if code-outcome outline-words
 
-pub try-arm : (x c : Try.MaybeTry) {y : List ℕ} → x ≡ c → y ≡ told-if try-words (try-outcome c) → y ≡ told-if try-words (try-outcome x)
+pub try-arm : (x c : Try.MaybeTryAnswer) {y : List ℕ} → x ≡ c → y ≡ told-if try-words (try-outcome c) → y ≡ told-if try-words (try-outcome x)
 try-arm = arm-if try-outcome try-words
 
-pub handler-arm : (x c : Handler.MaybeHandler) {y : List ℕ} → x ≡ c → y ≡ told-if handler-words (handler-outcome c) → y ≡ told-if handler-words (handler-outcome x)
+pub handler-arm : (x c : Handler.MaybeHandlerAnswer) {y : List ℕ} → x ≡ c → y ≡ told-if handler-words (handler-outcome c) → y ≡ told-if handler-words (handler-outcome x)
 handler-arm = arm-if handler-outcome handler-words
 
-pub pair-arm : (x c : Pair.MaybePair) {y : List ℕ} → x ≡ c → y ≡ told-if pair-words (pair-outcome c) → y ≡ told-if pair-words (pair-outcome x)
+pub pair-arm : (x c : Pair.MaybePairAnswer) {y : List ℕ} → x ≡ c → y ≡ told-if pair-words (pair-outcome c) → y ≡ told-if pair-words (pair-outcome x)
 pair-arm = arm-if pair-outcome pair-words
 
-pub debug-arm : (x c : Debug.MaybeDebug) {y : List ℕ} → x ≡ c → y ≡ told-if debug-words (debug-outcome c) → y ≡ told-if debug-words (debug-outcome x)
+pub debug-arm : (x c : Debug.MaybeDebugAnswer) {y : List ℕ} → x ≡ c → y ≡ told-if debug-words (debug-outcome c) → y ≡ told-if debug-words (debug-outcome x)
 debug-arm = arm-if debug-outcome debug-words
 
-pub name-arm : (x c : Name.MaybeName) {y : List ℕ} → x ≡ c → y ≡ told-if option-words (name-outcome c) → y ≡ told-if option-words (name-outcome x)
+pub name-arm : (x c : Name.MaybeNameAnswer) {y : List ℕ} → x ≡ c → y ≡ told-if option-words (name-outcome c) → y ≡ told-if option-words (name-outcome x)
 name-arm = arm-if name-outcome option-words
 
-pub cover-arm : (x c : Cover.CoverAnswer) {y : List ℕ} → x ≡ c → y ≡ told-if number-words (cover-outcome c) → y ≡ told-if number-words (cover-outcome x)
+pub cover-arm : (x c : CoveringTry.CoverAnswer) {y : List ℕ} → x ≡ c → y ≡ told-if number-words (cover-outcome c) → y ≡ told-if number-words (cover-outcome x)
 cover-arm = arm-if cover-outcome number-words
 
-pub checked-arm : (x c : Checked.Checked) {y : List ℕ} → x ≡ c → y ≡ told no-words (checked-outcome c) → y ≡ told no-words (checked-outcome x)
+pub checked-arm : (x c : Checked.CheckAnswer) {y : List ℕ} → x ≡ c → y ≡ told no-words (checked-outcome c) → y ≡ told no-words (checked-outcome x)
 checked-arm = arm checked-outcome no-words
 
 pub directory-arm : (x c : Directory.DirectoryAnswer) {y : List ℕ} → x ≡ c → y ≡ told-if directory-words (directory-outcome c) → y ≡ told-if directory-words (directory-outcome x)
 directory-arm = arm-if directory-outcome directory-words
 
-pub place-arm : (x c : Place.EntryAnswer) {y : List ℕ} → x ≡ c → y ≡ told place-words (place-outcome c) → y ≡ told place-words (place-outcome x)
+pub place-arm : (x c : Place.DirectoryEntryAnswer) {y : List ℕ} → x ≡ c → y ≡ told place-words (place-outcome c) → y ≡ told place-words (place-outcome x)
 place-arm = arm place-outcome place-words
 
-pub word-arm : (x c : Word.Word) {y : List ℕ} → x ≡ c → y ≡ told number-words (word-outcome c) → y ≡ told number-words (word-outcome x)
+pub word-arm : (x c : Word.WordAnswer) {y : List ℕ} → x ≡ c → y ≡ told number-words (word-outcome c) → y ≡ told number-words (word-outcome x)
 word-arm = arm word-outcome number-words
 
 pub annotation-arm : (x c : Annotation.SummaryAnswer) {y : List ℕ} → x ≡ c → y ≡ told annotation-words (annotation-outcome c) → y ≡ told annotation-words (annotation-outcome x)
 annotation-arm = arm annotation-outcome annotation-words
 
-pub covered-arm : (x c : Cover) {y : List ℕ} → x ≡ c → y ≡ told-if number-words (answer (cover-meant c)) → y ≡ told-if number-words (answer (cover-meant x))
-covered-arm x c e q = q ∙ ap (λ (u : Cover). told-if number-words (answer (cover-meant u))) (sym e)
+pub covered-arm : (x c : CoveringTry) {y : List ℕ} → x ≡ c → y ≡ told-if number-words (answer (cover-meant c)) → y ≡ told-if number-words (answer (cover-meant x))
+covered-arm x c e q = q ∙ ap (λ (u : CoveringTry). told-if number-words (answer (cover-meant u))) (sym e)
 
 -- a number that a function gave, in its place
 pub first-by : {w x : ℕ} {y : List ℕ} → w ≡ x → y ≡ row (0 ∷ w ∷ []) → y ≡ row (0 ∷ x ∷ [])

@@ -10,23 +10,23 @@ use Rattle.refusal.specs.Outcome.{Outcome, answer, refused}
 use Rattle.word.specs.declared.Endian as E
 use Rattle.header.specs.declared.Table.{Table}
 use Rattle.header.specs.declared.Header.{Header}
-use Rattle.map_list.specs.declared.Entry.{Entry}
+use Rattle.map_list.specs.declared.MapEntry.{MapEntry}
 use Rattle.text.specs.Text.{Extent}
 use Rattle.ids.specs.declared.Proto.{Proto}
-use Rattle.ids.specs.declared.Member.{Member}
+use Rattle.ids.specs.declared.MemberId.{MemberId}
 use Rattle.ids.specs.declared.Handle.{Handle}
 use Rattle.class_ids.specs.declared.Class.{Class}
 use Rattle.class_ids.specs.declared.Maybe as M
 use Rattle.decoded_value.specs.Shown.{Shown, Content, integer, natural, floating, row-number, body, nothing, truth}
 use Rattle.value_bodies.specs.Bodies.{ShownElement}
-use Rattle.value_readers.specs.Bodies.{Sized, NotedSize}
+use Rattle.value_readers.specs.Bodies.{ArraySize, NotedSize}
 use Rattle.class_data.specs.declared.Counts.{Counts}
 use Rattle.class_members.specs.declared.Member as D
 use Rattle.code_item.specs.declared.Outline.{Outline}
 use Rattle.code_item.specs.Code.{Linked, Handed}
 use Rattle.handlers.specs.declared.Pair.{Pair}
 use Rattle.debug_info.specs.Debug as B
-use Rattle.annotation_directories.specs.declared.Head as H
+use Rattle.annotation_directories.specs.declared.DirectoryHead as H
 use Rattle.annotation_directories.specs.Directories as N
 use Rattle.annotation_items.specs.Items.{Summary}
 
@@ -73,7 +73,7 @@ ordered-words h order =
 unfoldable pub header-words : Header → List ℕ
 header-words h = ordered-words h (order-word (h .order))
 
-abbrev pub entry-words : Entry → List ℕ
+abbrev pub entry-words : MapEntry → List ℕ
 entry-words e = e .kind ∷ e .size ∷ e .offset ∷ []
 
 abbrev pub text-words : Extent → List ℕ
@@ -82,7 +82,7 @@ text-words t = t .start ∷ t .length ∷ t .units ∷ []
 abbrev pub proto-words : Proto → List ℕ
 proto-words p = p .shorty ∷ p .«return_type» ∷ p .parameters ∷ []
 
-abbrev pub member-words : Member → List ℕ
+abbrev pub member-words : MemberId → List ℕ
 member-words m = m .class ∷ m .kind ∷ m .name ∷ []
 
 abbrev pub handle-words : Handle → List ℕ
@@ -136,7 +136,7 @@ named-words v name = v .kind ∷ first-word (v .content) ∷ second-word (v .con
 abbrev pub element-words : ShownElement → List ℕ
 element-words e = named-words (e .value) (e .name)
 
-abbrev pub array-words : Sized → List ℕ
+abbrev pub array-words : ArraySize → List ℕ
 array-words a = a .count ∷ a .length ∷ []
 
 abbrev pub body-words : NotedSize → List ℕ
@@ -177,10 +177,10 @@ pair-words p = p .kind ∷ p .address ∷ []
 abbrev pub debug-words : B.Extent → List ℕ
 debug-words d = d .line ∷ d .names ∷ d .start ∷ d .length ∷ []
 
-abbrev pub directory-words : H.Head → List ℕ
+abbrev pub directory-words : H.DirectoryHead → List ℕ
 directory-words h = h .set ∷ h .fields ∷ h .methods ∷ h .parameters ∷ []
 
-abbrev pub place-words : N.Entry → List ℕ
+abbrev pub place-words : N.DirectoryEntry → List ℕ
 place-words e = e .index ∷ e .offset ∷ []
 
 abbrev pub annotation-words : Summary → List ℕ

@@ -5,8 +5,8 @@ use class_ids::ClassAnswer;
 use class_ids::Maybe;
 use header::Header;
 use header::HeaderAnswer;
-use string_ids::Found;
-use string_ids::Lookup;
+use string_ids::FoundString;
+use string_ids::LookupAnswer;
 use word::Endian;
 ghost use mathlib.Core.Path.{_≡_};
 ghost use mathlib.Core.List.{_∷_};
@@ -136,14 +136,14 @@ pub fn class_row(a: ClassAnswer) -> [u64; 20]
     }
 }
 
-pub fn lookup_row(a: Lookup) -> [u64; 20]
+pub fn lookup_row(a: LookupAnswer) -> [u64; 20]
     ensures { λ w. ⌜ w ≡ told-if number-words (lookup-outcome a) ⌝ }
 {
     match a {
-        Lookup::Refused(r) => words::refused(r),
-        Lookup::Got(o) => match o {
-            Found::Nothing => words::absent(),
-            Found::Number(n) => words::one(n),
+        LookupAnswer::Refused(r) => words::refused(r),
+        LookupAnswer::Got(o) => match o {
+            FoundString::Absent => words::absent(),
+            FoundString::Number(n) => words::one(n),
         },
     }
 }

@@ -1,7 +1,7 @@
 // Rows of class data, code and debug information.
 use super::words;
 use code_item::Catch;
-use code_item::Cover;
+use code_item::CoveringTry;
 use code_item::Outline;
 use debug_info::Name;
 ghost use mathlib.Core.Path.{_≡_};
@@ -62,22 +62,22 @@ fn outline_row(o: Outline) -> [u64; 20]
     ]
 }
 
-fn covered(c: Cover) -> [u64; 20]
+fn covered(c: CoveringTry) -> [u64; 20]
     ensures { λ w. ⌜ w ≡ told-if number-words (answer (cover-meant c)) ⌝ }
 {
     match c {
-        Cover::Nothing => words::absent(),
-        Cover::Number(n) => words::one(n),
+        CoveringTry::Absent => words::absent(),
+        CoveringTry::Number(n) => words::one(n),
     }
 }
 
-pub fn data_row(a: class_readers::MaybeData) -> [u64; 20]
+pub fn data_row(a: class_readers::MaybeDataAnswer) -> [u64; 20]
     ensures { λ w. ⌜ w ≡ told-if counts-words (data-outcome a) ⌝ }
 {
     match a {
-        class_readers::MaybeData::Refused(r) => words::refused(r),
-        class_readers::MaybeData::Absent => words::absent(),
-        class_readers::MaybeData::Got(c) => words::four(
+        class_readers::MaybeDataAnswer::Refused(r) => words::refused(r),
+        class_readers::MaybeDataAnswer::Absent => words::absent(),
+        class_readers::MaybeDataAnswer::Got(c) => words::four(
             c.statics as u64,
             c.instances as u64,
             c.directs as u64,
@@ -86,13 +86,13 @@ pub fn data_row(a: class_readers::MaybeData) -> [u64; 20]
     }
 }
 
-pub fn found_row(a: class_readers::MaybeMember) -> [u64; 20]
+pub fn found_row(a: class_readers::MaybeMemberAnswer) -> [u64; 20]
     ensures { λ w. ⌜ w ≡ told-if found-words (found-outcome a) ⌝ }
 {
     match a {
-        class_readers::MaybeMember::Refused(r) => words::refused(r),
-        class_readers::MaybeMember::Absent => words::absent(),
-        class_readers::MaybeMember::Got(m) => words::four(
+        class_readers::MaybeMemberAnswer::Refused(r) => words::refused(r),
+        class_readers::MaybeMemberAnswer::Absent => words::absent(),
+        class_readers::MaybeMemberAnswer::Got(m) => words::four(
             m.index as u64,
             m.flags as u64,
             m.code as u64,
@@ -101,33 +101,33 @@ pub fn found_row(a: class_readers::MaybeMember) -> [u64; 20]
     }
 }
 
-pub fn written_row(a: class_readers::MaybeCount) -> [u64; 20]
+pub fn written_row(a: class_readers::MaybeCountAnswer) -> [u64; 20]
     ensures { λ w. ⌜ w ≡ told-if number-words (written-outcome a) ⌝ }
 {
     match a {
-        class_readers::MaybeCount::Refused(r) => words::refused(r),
-        class_readers::MaybeCount::Absent => words::absent(),
-        class_readers::MaybeCount::Got(n) => words::four(n as u64, 0, 0, 0),
+        class_readers::MaybeCountAnswer::Refused(r) => words::refused(r),
+        class_readers::MaybeCountAnswer::Absent => words::absent(),
+        class_readers::MaybeCountAnswer::Got(n) => words::four(n as u64, 0, 0, 0),
     }
 }
 
-pub fn code_row(a: code_readers::MaybeCode) -> [u64; 20]
+pub fn code_row(a: code_readers::MaybeCodeAnswer) -> [u64; 20]
     ensures { λ w. ⌜ w ≡ told-if outline-words (code-outcome a) ⌝ }
 {
     match a {
-        code_readers::MaybeCode::Refused(r) => words::refused(r),
-        code_readers::MaybeCode::Absent => words::absent(),
-        code_readers::MaybeCode::Got(o) => outline_row(o),
+        code_readers::MaybeCodeAnswer::Refused(r) => words::refused(r),
+        code_readers::MaybeCodeAnswer::Absent => words::absent(),
+        code_readers::MaybeCodeAnswer::Got(o) => outline_row(o),
     }
 }
 
-pub fn try_row(a: code_readers::MaybeTry) -> [u64; 20]
+pub fn try_row(a: code_readers::MaybeTryAnswer) -> [u64; 20]
     ensures { λ w. ⌜ w ≡ told-if try-words (try-outcome a) ⌝ }
 {
     match a {
-        code_readers::MaybeTry::Refused(r) => words::refused(r),
-        code_readers::MaybeTry::Absent => words::absent(),
-        code_readers::MaybeTry::Got { attempt, number } => words::four(
+        code_readers::MaybeTryAnswer::Refused(r) => words::refused(r),
+        code_readers::MaybeTryAnswer::Absent => words::absent(),
+        code_readers::MaybeTryAnswer::Got { attempt, number } => words::four(
             attempt.start as u64,
             attempt.count as u64,
             attempt.handler as u64,
@@ -136,13 +136,13 @@ pub fn try_row(a: code_readers::MaybeTry) -> [u64; 20]
     }
 }
 
-pub fn handler_row(a: code_readers::MaybeHandler) -> [u64; 20]
+pub fn handler_row(a: code_readers::MaybeHandlerAnswer) -> [u64; 20]
     ensures { λ w. ⌜ w ≡ told-if handler-words (handler-outcome a) ⌝ }
 {
     match a {
-        code_readers::MaybeHandler::Refused(r) => words::refused(r),
-        code_readers::MaybeHandler::Absent => words::absent(),
-        code_readers::MaybeHandler::Got { offset, pairs, all } => words::four(
+        code_readers::MaybeHandlerAnswer::Refused(r) => words::refused(r),
+        code_readers::MaybeHandlerAnswer::Absent => words::absent(),
+        code_readers::MaybeHandlerAnswer::Got { offset, pairs, all } => words::four(
             offset as u64,
             pairs as u64,
             catch_word(all),
@@ -151,23 +151,23 @@ pub fn handler_row(a: code_readers::MaybeHandler) -> [u64; 20]
     }
 }
 
-pub fn pair_row(a: code_readers::MaybePair) -> [u64; 20]
+pub fn pair_row(a: code_readers::MaybePairAnswer) -> [u64; 20]
     ensures { λ w. ⌜ w ≡ told-if pair-words (pair-outcome a) ⌝ }
 {
     match a {
-        code_readers::MaybePair::Refused(r) => words::refused(r),
-        code_readers::MaybePair::Absent => words::absent(),
-        code_readers::MaybePair::Got(p) => words::four(p.kind as u64, p.address as u64, 0, 0),
+        code_readers::MaybePairAnswer::Refused(r) => words::refused(r),
+        code_readers::MaybePairAnswer::Absent => words::absent(),
+        code_readers::MaybePairAnswer::Got(p) => words::four(p.kind as u64, p.address as u64, 0, 0),
     }
 }
 
-pub fn debug_row(a: debug_readers::MaybeDebug) -> [u64; 20]
+pub fn debug_row(a: debug_readers::MaybeDebugAnswer) -> [u64; 20]
     ensures { λ w. ⌜ w ≡ told-if debug-words (debug-outcome a) ⌝ }
 {
     match a {
-        debug_readers::MaybeDebug::Refused(r) => words::refused(r),
-        debug_readers::MaybeDebug::Absent => words::absent(),
-        debug_readers::MaybeDebug::Got {
+        debug_readers::MaybeDebugAnswer::Refused(r) => words::refused(r),
+        debug_readers::MaybeDebugAnswer::Absent => words::absent(),
+        debug_readers::MaybeDebugAnswer::Got {
             line,
             names,
             start,
@@ -176,21 +176,21 @@ pub fn debug_row(a: debug_readers::MaybeDebug) -> [u64; 20]
     }
 }
 
-pub fn name_row(a: debug_readers::MaybeName) -> [u64; 20]
+pub fn name_row(a: debug_readers::MaybeNameAnswer) -> [u64; 20]
     ensures { λ w. ⌜ w ≡ told-if option-words (name-outcome a) ⌝ }
 {
     match a {
-        debug_readers::MaybeName::Refused(r) => words::refused(r),
-        debug_readers::MaybeName::Absent => words::absent(),
-        debug_readers::MaybeName::Got(n) => words::four(name_word(n), 0, 0, 0),
+        debug_readers::MaybeNameAnswer::Refused(r) => words::refused(r),
+        debug_readers::MaybeNameAnswer::Absent => words::absent(),
+        debug_readers::MaybeNameAnswer::Got(n) => words::four(name_word(n), 0, 0, 0),
     }
 }
 
-pub fn cover_row(a: code_item::CoverAnswer) -> [u64; 20]
+pub fn cover_row(a: code_item::CoveringTryAnswer) -> [u64; 20]
     ensures { λ w. ⌜ w ≡ told-if number-words (cover-outcome a) ⌝ }
 {
     match a {
-        code_item::CoverAnswer::Refused(r) => words::refused(r),
-        code_item::CoverAnswer::Got(c) => covered(c),
+        code_item::CoveringTryAnswer::Refused(r) => words::refused(r),
+        code_item::CoveringTryAnswer::Got(c) => covered(c),
     }
 }

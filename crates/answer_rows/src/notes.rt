@@ -4,16 +4,16 @@ ghost use mathlib.Core.Path.{_≡_};
 ghost use Rattle.refusal.specs.Answers.{checked-outcome};
 ghost use Rattle.directory_readers.specs.Answers.{directory-outcome};
 ghost use Rattle.annotation_lists.specs.Answers.{word-outcome};
-ghost use Rattle.annotation_directories.specs.Answers.{entry-outcome as place-outcome};
+ghost use Rattle.annotation_directories.specs.Answers.{directory-entry-outcome as place-outcome};
 ghost use Rattle.annotation_items.specs.Answers.{summary-outcome as annotation-outcome};
 ghost use Rattle.answer_rows.specs.Words.{annotation-words, directory-words, no-words, number-words, place-words, told, told-if};
 
-pub fn checked_row(a: refusal::Checked) -> [u64; 20]
+pub fn checked_row(a: refusal::CheckAnswer) -> [u64; 20]
     ensures { λ w. ⌜ w ≡ told no-words (checked-outcome a) ⌝ }
 {
     match a {
-        refusal::Checked::Refused(r) => words::refused(r),
-        refusal::Checked::Accepted => words::four(0, 0, 0, 0),
+        refusal::CheckAnswer::Refused(r) => words::refused(r),
+        refusal::CheckAnswer::Accepted => words::four(0, 0, 0, 0),
     }
 }
 
@@ -32,12 +32,12 @@ pub fn directory_row(a: directory_readers::DirectoryAnswer) -> [u64; 20]
     }
 }
 
-pub fn place_row(a: annotation_directories::EntryAnswer) -> [u64; 20]
+pub fn place_row(a: annotation_directories::DirectoryEntryAnswer) -> [u64; 20]
     ensures { λ w. ⌜ w ≡ told place-words (place-outcome a) ⌝ }
 {
     match a {
-        annotation_directories::EntryAnswer::Refused(r) => words::refused(r),
-        annotation_directories::EntryAnswer::Got { index, offset } => words::four(
+        annotation_directories::DirectoryEntryAnswer::Refused(r) => words::refused(r),
+        annotation_directories::DirectoryEntryAnswer::Got { index, offset } => words::four(
             index as u64,
             offset as u64,
             0,
@@ -46,12 +46,12 @@ pub fn place_row(a: annotation_directories::EntryAnswer) -> [u64; 20]
     }
 }
 
-pub fn word_row(a: annotation_lists::Word) -> [u64; 20]
+pub fn word_row(a: annotation_lists::WordAnswer) -> [u64; 20]
     ensures { λ w. ⌜ w ≡ told number-words (word-outcome a) ⌝ }
 {
     match a {
-        annotation_lists::Word::Refused(r) => words::refused(r),
-        annotation_lists::Word::Got(n) => words::one(n),
+        annotation_lists::WordAnswer::Refused(r) => words::refused(r),
+        annotation_lists::WordAnswer::Got(n) => words::one(n),
     }
 }
 

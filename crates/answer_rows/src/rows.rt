@@ -7,7 +7,7 @@ ghost use Rattle.ids.specs.Answers.{handle-outcome};
 ghost use Rattle.text.specs.Answers.{text-outcome};
 ghost use Rattle.ids.specs.Answers.{index-outcome};
 ghost use Rattle.ids.specs.Answers.{proto-outcome};
-ghost use Rattle.ids.specs.Answers.{member-outcome};
+ghost use Rattle.ids.specs.Answers.{member-id-outcome};
 ghost use Rattle.type_list.specs.Answers.{count-outcome as list-outcome};
 ghost use Rattle.type_list.specs.Answers.{type-outcome as listed-outcome};
 ghost use Rattle.access_flags.specs.Answers.{flags-outcome};
@@ -27,12 +27,12 @@ pub fn count_row(a: table_readers::CountAnswer) -> [u64; 20]
     }
 }
 
-pub fn entry_row(a: table_readers::EntryAnswer) -> [u64; 20]
+pub fn entry_row(a: table_readers::MapEntryAnswer) -> [u64; 20]
     ensures { λ w. ⌜ w ≡ told entry-words (entry-outcome a) ⌝ }
 {
     match a {
-        table_readers::EntryAnswer::Refused(r) => words::refused(r),
-        table_readers::EntryAnswer::Got(e) => words::four(
+        table_readers::MapEntryAnswer::Refused(r) => words::refused(r),
+        table_readers::MapEntryAnswer::Got(e) => words::four(
             e.kind as u64,
             e.size as u64,
             e.offset as u64,
@@ -86,21 +86,21 @@ pub fn proto_row(a: ids::ProtoAnswer) -> [u64; 20]
     }
 }
 
-pub fn member_row(a: ids::MemberAnswer) -> [u64; 20]
-    ensures { λ w. ⌜ w ≡ told member-words (member-outcome a) ⌝ }
+pub fn member_row(a: ids::MemberIdAnswer) -> [u64; 20]
+    ensures { λ w. ⌜ w ≡ told member-words (member-id-outcome a) ⌝ }
 {
     match a {
-        ids::MemberAnswer::Refused(r) => words::refused(r),
-        ids::MemberAnswer::Got(m) => words::four(m.class as u64, m.kind as u64, m.name as u64, 0),
+        ids::MemberIdAnswer::Refused(r) => words::refused(r),
+        ids::MemberIdAnswer::Got(m) => words::four(m.class as u64, m.kind as u64, m.name as u64, 0),
     }
 }
 
-pub fn list_row(a: type_list::CountAnswer) -> [u64; 20]
+pub fn list_row(a: type_list::TypeCountAnswer) -> [u64; 20]
     ensures { λ w. ⌜ w ≡ told number-words (list-outcome a) ⌝ }
 {
     match a {
-        type_list::CountAnswer::Refused(r) => words::refused(r),
-        type_list::CountAnswer::Got(n) => words::one(n),
+        type_list::TypeCountAnswer::Refused(r) => words::refused(r),
+        type_list::TypeCountAnswer::Got(n) => words::one(n),
     }
 }
 
@@ -149,29 +149,29 @@ pub fn body_row(a: value_readers::BodyAnswer) -> [u64; 20]
     }
 }
 
-pub fn size_row(a: value_bodies::Count) -> [u64; 20]
+pub fn size_row(a: value_bodies::BodySizeAnswer) -> [u64; 20]
     ensures { λ w. ⌜ w ≡ told number-words (size-outcome a) ⌝ }
 {
     match a {
-        value_bodies::Count::Refused(r) => words::refused(r),
-        value_bodies::Count::Got(n) => words::one(n),
+        value_bodies::BodySizeAnswer::Refused(r) => words::refused(r),
+        value_bodies::BodySizeAnswer::Got(n) => words::one(n),
     }
 }
 
-pub fn picked_row(a: value_bodies::Picked) -> [u64; 20]
+pub fn picked_row(a: value_bodies::PickedAnswer) -> [u64; 20]
     ensures { λ w. ⌜ w ≡ told value-words (picked-outcome a) ⌝ }
 {
     match a {
-        value_bodies::Picked::Refused(r) => words::refused(r),
-        value_bodies::Picked::Got(v) => words::value(v, 0),
+        value_bodies::PickedAnswer::Refused(r) => words::refused(r),
+        value_bodies::PickedAnswer::Got(v) => words::value(v, 0),
     }
 }
 
-pub fn element_row(a: value_bodies::Element) -> [u64; 20]
+pub fn element_row(a: value_bodies::ElementAnswer) -> [u64; 20]
     ensures { λ w. ⌜ w ≡ told element-words (element-outcome a) ⌝ }
 {
     match a {
-        value_bodies::Element::Refused(r) => words::refused(r),
-        value_bodies::Element::Got { name, value } => words::value(value, name),
+        value_bodies::ElementAnswer::Refused(r) => words::refused(r),
+        value_bodies::ElementAnswer::Got { name, value } => words::value(value, name),
     }
 }

@@ -12,20 +12,20 @@ use Rattle.refusal.proofs.Exact.{same, answer-exact, bind-exact, exact-iff}
 use Rattle.leb128.specs.Rules.{Uleb}
 use Rattle.leb128.proofs.Exactly.{uleb-exact}
 use Rattle.frame.specs.declared.Frame.{Frame}
-use Rattle.class_members.specs.declared.Judge.{Judge}
+use Rattle.class_members.specs.declared.MemberJudge.{MemberJudge}
 use Rattle.class_members.specs.declared.Member.{Member}
 use Rattle.class_members.specs.Members.{Run, membersAt}
 use Rattle.class_members.specs.Rules.{MembersRule}
 use Rattle.class_members.proofs.Exactly.{by-place, members-then, uleb-on, members-on}
 use Rattle.class_data.specs.declared.Counts.{Counts}
-use Rattle.class_data.specs.Data.{Both, pairAt, countsAt, Two, twoAt, fields-judge, methods-judge, ClassData, classDataAt}
+use Rattle.class_data.specs.Data.{Both, twoNumbersAt, countsAt, Two, twoAt, fields-judge, methods-judge, ClassData, classDataAt}
 use Rattle.class_data.specs.Rules.{CountsRule, DataRule}
 
 -- ---- two lists
 abbrev two : Found (List Member) ℕ → Found (List Member) ℕ → Found Two ℕ
 two x y = record { item = record { first = x .item; second = y .item }; next = y .next }
 
-module _ (s : List ℕ) (j : Judge) (item from m n : ℕ) where
+module _ (s : List ℕ) (j : MemberJudge) (item from m n : ℕ) where
   record Both-lists (r : Found Two ℕ) : Type 0 where
     middle : ℕ
     first-list : MembersRule s j from m (r .item .first) middle
@@ -46,8 +46,8 @@ module _ (s : List ℕ) (item : ℕ) where
     one : Uleb s p (record { item = r .item .first; next = middle })
     other : Uleb s middle (record { item = r .item .second; next = r .next })
 
-  pair-exact : (p : ℕ) → Exact (pairAt s item p) (Two-numbers p)
-  unfolding pairAt
+  pair-exact : (p : ℕ) → Exact (twoNumbersAt s item p) (Two-numbers p)
+  unfolding twoNumbersAt
   pair-exact p =
       exact-iff (bind-exact _ _ (uleb-exact s item p) (λ a. bind-exact _ _ (uleb-exact s item (a .next)) (λ b. answer-exact _)))
       (λ r h. subst (Two-numbers p) (h .1 .1 .1 .1) (record { middle = h .0 .next; one = h .1 .0; other = h .1 .1 .1 .0 }))

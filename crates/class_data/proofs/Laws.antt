@@ -16,36 +16,36 @@ use Rattle.refusal.proofs.Rows.{bind-assoc}
 use Rattle.leb128.proofs.Laws.{on-leb}
 use Rattle.frame.specs.declared.Frame.{Frame}
 use Rattle.class_members.specs.declared.Member.{Member}
-use Rattle.class_members.specs.declared.Judge.{Judge}
+use Rattle.class_members.specs.declared.MemberJudge.{MemberJudge}
 use Rattle.class_members.specs.Members.{nobody, membersAt, keptMembers}
 use Rattle.class_members.proofs.Laws.{on-found, members-by}
 use Rattle.class_data.specs.declared.Counts.{Counts}
-use Rattle.class_data.specs.declared.Four.{Four}
-use Rattle.class_data.specs.declared.Pair.{Pair}
+use Rattle.class_data.specs.declared.KeptMembers.{KeptMembers}
+use Rattle.class_data.specs.declared.TwoNumbersAnswer.{TwoNumbersAnswer}
 use Rattle.class_data.specs.declared.CountsAnswer.{CountsAnswer}
-use Rattle.class_data.specs.declared.TwoAnswer.{TwoAnswer}
-use Rattle.class_data.specs.declared.KeptAnswer.{KeptAnswer}
+use Rattle.class_data.specs.declared.TwoMembersAnswer.{TwoMembersAnswer}
+use Rattle.class_data.specs.declared.KeptDataAnswer.{KeptDataAnswer}
 use Rattle.class_data.specs.declared.Methods.{Methods}
 use Rattle.class_data.specs.declared.MethodsAnswer.{MethodsAnswer}
 use Rattle.class_data.specs.declared.DataAnswer.{DataAnswer}
 use Rattle.class_data.specs.declared.MemberAnswer.{MemberAnswer}
-use Rattle.class_data.specs.Data.{Both, countsAt, Two, twoAt, fields-judge, methods-judge, ClassData, classDataAt, counts, extentAt, methodsAt, one-of-four, listOf, memberOf, KeptTwo, keptTwo, Kept, keptAt, countIn, memberIn}
-use Rattle.class_data.specs.Answers.{pair-outcome, counts-outcome, two-outcome, kept-outcome, data-outcome, member-outcome, methods-outcome}
+use Rattle.class_data.specs.Data.{Both, countsAt, Two, twoAt, fields-judge, methods-judge, ClassData, classDataAt, counts, extentAt, methodsAt, one-of-four, listOf, memberOf, KeptTwo, keptTwo, KeptData, keptDataAt, countIn, memberIn}
+use Rattle.class_data.specs.Answers.{two-numbers-outcome, counts-outcome, two-outcome, kept-data-outcome, data-outcome, member-outcome, methods-outcome}
 
 -- ---- calls, by the arm that was taken
-pub on-pair : {B : Type 0} {x c : Pair} {o : Outcome (Found Both ℕ)} {y : Outcome B} (k : Found Both ℕ → Outcome B)
-    → pair-outcome x ≡ o → x ≡ c → y ≡ (pair-outcome c >>= k) → y ≡ (o >>= k)
-on-pair = said pair-outcome
+pub on-pair : {B : Type 0} {x c : TwoNumbersAnswer} {o : Outcome (Found Both ℕ)} {y : Outcome B} (k : Found Both ℕ → Outcome B)
+    → two-numbers-outcome x ≡ o → x ≡ c → y ≡ (two-numbers-outcome c >>= k) → y ≡ (o >>= k)
+on-pair = said two-numbers-outcome
 
 pub on-counts : {B : Type 0} {x c : CountsAnswer} {o : Outcome (Found Counts ℕ)} {y : Outcome B} (k : Found Counts ℕ → Outcome B)
     → counts-outcome x ≡ o → x ≡ c → y ≡ (counts-outcome c >>= k) → y ≡ (o >>= k)
 on-counts = said counts-outcome
 
-pub on-two : {B : Type 0} {x c : TwoAnswer} {o : Outcome KeptTwo} {y : Outcome B} (k : KeptTwo → Outcome B) → two-outcome x ≡ o → x ≡ c → y ≡ (two-outcome c >>= k) → y ≡ (o >>= k)
+pub on-two : {B : Type 0} {x c : TwoMembersAnswer} {o : Outcome KeptTwo} {y : Outcome B} (k : KeptTwo → Outcome B) → two-outcome x ≡ o → x ≡ c → y ≡ (two-outcome c >>= k) → y ≡ (o >>= k)
 on-two = said two-outcome
 
-pub on-kept : {B : Type 0} {x c : KeptAnswer} {o : Outcome Kept} {y : Outcome B} (k : Kept → Outcome B) → kept-outcome x ≡ o → x ≡ c → y ≡ (kept-outcome c >>= k) → y ≡ (o >>= k)
-on-kept = said kept-outcome
+pub on-kept : {B : Type 0} {x c : KeptDataAnswer} {o : Outcome KeptData} {y : Outcome B} (k : KeptData → Outcome B) → kept-data-outcome x ≡ o → x ≡ c → y ≡ (kept-data-outcome c >>= k) → y ≡ (o >>= k)
+on-kept = said kept-data-outcome
 
 pub on-data : {B : Type 0} {x c : DataAnswer} {o : Outcome (Found Counts ℕ)} {y : Outcome B} (k : Found Counts ℕ → Outcome B)
     → data-outcome x ≡ o → x ≡ c → y ≡ (data-outcome c >>= k) → y ≡ (o >>= k)
@@ -61,7 +61,7 @@ on-methods = said methods-outcome
 
 -- ---- the stages: of each list one member and the count are kept
 module _ (s : List ℕ) (item k : ℕ) {B : Type 0} where
-  two-by : (j : Judge) (from m n : ℕ) (f : Found Two ℕ → Outcome B) (g : KeptTwo → Outcome B)
+  two-by : (j : MemberJudge) (from m n : ℕ) (f : Found Two ℕ → Outcome B) (g : KeptTwo → Outcome B)
       → ((t : Found Two ℕ) → length (t .item .first) ≡ m → length (t .item .second) ≡ n
       → f t ≡ g (record { first = getD (t .item .first) k nobody; second = getD (t .item .second) k nobody; next = t .next }))
       → (twoAt s j item from m n >>= f) ≡ (keptTwo s j item from m n k >>= g)
@@ -78,7 +78,7 @@ module _ (s : List ℕ) (item k : ℕ) {B : Type 0} where
           ≡ (keptMembers s j item (x .next) n k >>= λ (y : Found Member ℕ). g (record { first = x .item; second = y .item; next = y .next }))
       inner x = bind-assoc (keptMembers s j item (x .next) n k) _ g ∙ λ i. keptMembers s j item (x .next) n k >>= λ (y : Found Member ℕ). bind-answer {o = answer (record { first = x .item; second = y .item; next = y .next })} g refl i
 
-abbrev holding : ℕ → ClassData → Outcome Kept
+abbrev holding : ℕ → ClassData → Outcome KeptData
 holding k d = answer (record {
   counts = counts d;
   members = record { statics = getD (d .statics) k nobody; instances = getD (d .instances) k nobody; directs = getD (d .directs) k nobody; virtuals = getD (d .virtuals) k nobody };
@@ -87,8 +87,8 @@ holding k d = answer (record {
 })
 
 module _ (s : List ℕ) (f : Frame) (item : ℕ) where
-  kept-whole : (k : ℕ) → (classDataAt s f item >>= holding k) ≡ keptAt s f item k
-  unfolding classDataAt keptAt
+  kept-whole : (k : ℕ) → (classDataAt s f item >>= holding k) ≡ keptDataAt s f item k
+  unfolding classDataAt keptDataAt
   kept-whole k = bind-assoc (countsAt s item) _ (holding k) ∙ λ i. countsAt s item >>= λ (c : Found Counts ℕ). lists c i
     where
       lists : (c : Found Counts ℕ) → ((twoAt s (fields-judge f) item (c .next) (c .item .statics) (c .item .instances) >>= λ (x : Found Two ℕ).
@@ -109,14 +109,14 @@ module _ (s : List ℕ) (f : Frame) (item : ℕ) where
             end = y .next;
           })))
 
-  pub extent-by : {y : Outcome (Found Counts ℕ)} → y ≡ (keptAt s f item 0 >>= λ (h : Kept). answer (record { item = h .counts; next = h .end })) → y ≡ extentAt s f item
+  pub extent-by : {y : Outcome (Found Counts ℕ)} → y ≡ (keptDataAt s f item 0 >>= λ (h : KeptData). answer (record { item = h .counts; next = h .end })) → y ≡ extentAt s f item
   unfolding extentAt _>>=_
-  extent-by e = e ∙ ap (λ (o : Outcome Kept). o >>= λ (h : Kept). answer (record { item = h .counts; next = h .end })) (sym (kept-whole 0)) ∙ bind-assoc (classDataAt s f item) (holding 0) _
+  extent-by e = e ∙ ap (λ (o : Outcome KeptData). o >>= λ (h : KeptData). answer (record { item = h .counts; next = h .end })) (sym (kept-whole 0)) ∙ bind-assoc (classDataAt s f item) (holding 0) _
 
-  pub methods-by : {y : Outcome Methods} → y ≡ (keptAt s f item 0 >>= λ (h : Kept). answer (record { directs = h .counts .directs; virtuals = h .counts .virtuals; from = h .methods })) → y ≡ methodsAt s f item
+  pub methods-by : {y : Outcome Methods} → y ≡ (keptDataAt s f item 0 >>= λ (h : KeptData). answer (record { directs = h .counts .directs; virtuals = h .counts .virtuals; from = h .methods })) → y ≡ methodsAt s f item
   unfolding methodsAt _>>=_
   methods-by e =
-      e ∙ ap (λ (o : Outcome Kept). o >>= λ (h : Kept). answer (record { directs = h .counts .directs; virtuals = h .counts .virtuals; from = h .methods })) (sym (kept-whole 0))
+      e ∙ ap (λ (o : Outcome KeptData). o >>= λ (h : KeptData). answer (record { directs = h .counts .directs; virtuals = h .counts .virtuals; from = h .methods })) (sym (kept-whole 0))
       ∙ bind-assoc (classDataAt s f item) (holding 0) _
 
   -- the methods alone: of the lists nothing but where they end is kept
@@ -127,11 +127,11 @@ module _ (s : List ℕ) (f : Frame) (item : ℕ) where
     y ← keptTwo s (methods-judge f) item (x .next) (c .item .directs) (c .item .virtuals) 0
     answer (record { directs = c .item .directs; virtuals = c .item .virtuals; from = x .next })
 
-  abbrev taking : Kept → Outcome Methods
+  abbrev taking : KeptData → Outcome Methods
   taking h = answer (record { directs = h .counts .directs; virtuals = h .counts .virtuals; from = h .methods })
 
-  staged-is : methodsStaged ≡ (keptAt s f item 0 >>= taking)
-  unfolding keptAt methodsStaged _>>=_
+  staged-is : methodsStaged ≡ (keptDataAt s f item 0 >>= taking)
+  unfolding keptDataAt methodsStaged _>>=_
   staged-is = sym (bind-assoc (countsAt s item) _ taking ∙ λ i. countsAt s item >>= λ (c : Found Counts ℕ). lists c i)
     where
       lists : (c : Found Counts ℕ) → ((keptTwo s (fields-judge f) item (c .next) (c .item .statics) (c .item .instances) 0 >>= λ (x : KeptTwo).
@@ -156,12 +156,12 @@ module _ (s : List ℕ) (f : Frame) (item : ℕ) where
       go true x y z p = refl
       go false x y z p = p
 
-  pub member-by : (list k : ℕ) {y : Outcome Member} → y ≡ (keptAt s f item k >>= λ (h : Kept). given (ltb k (countIn list (h .counts))) 7 0 (answer (memberIn list (h .members)))) → y ≡ memberOf s f item list k
+  pub member-by : (list k : ℕ) {y : Outcome Member} → y ≡ (keptDataAt s f item k >>= λ (h : KeptData). given (ltb k (countIn list (h .counts))) 7 0 (answer (memberIn list (h .members)))) → y ≡ memberOf s f item list k
   unfolding memberOf countIn memberIn
   member-by list k e =
-      e ∙ ap (λ (o : Outcome Kept). o >>= λ (h : Kept). given (ltb k (countIn list (h .counts))) 7 0 (answer (memberIn list (h .members)))) (sym (kept-whole k))
+      e ∙ ap (λ (o : Outcome KeptData). o >>= λ (h : KeptData). given (ltb k (countIn list (h .counts))) 7 0 (answer (memberIn list (h .members)))) (sym (kept-whole k))
       ∙ bind-assoc (classDataAt s f item) (holding k) _
-      ∙ λ i. classDataAt s f item >>= λ (d : ClassData). (bind-answer {o = holding k d} (λ (h : Kept). given (ltb k (countIn list (h .counts))) 7 0 (answer (memberIn list (h .members)))) refl ∙ same d) i
+      ∙ λ i. classDataAt s f item >>= λ (d : ClassData). (bind-answer {o = holding k d} (λ (h : KeptData). given (ltb k (countIn list (h .counts))) 7 0 (answer (memberIn list (h .members)))) refl ∙ same d) i
     where
       same : (d : ClassData) → given (ltb k (one-of-four list (length (d .statics)) (length (d .instances)) (length (d .directs)) (length (d .virtuals)) 0)) 7 0
           (answer (one-of-four list (getD (d .statics) k nobody) (getD (d .instances) k nobody) (getD (d .directs) k nobody) (getD (d .virtuals) k nobody) nobody))
@@ -170,7 +170,7 @@ module _ (s : List ℕ) (f : Frame) (item : ℕ) where
           (answer (sym (through (λ (l : List Member). getD l k nobody) list (d .statics) (d .instances) (d .directs) (d .virtuals) []) i))
 
 -- the count and the member that were asked for
-module _ (list k : ℕ) (c : Counts) (m : Four) {n : ℕ} (e : n ≡ countIn list c) where
+module _ (list k : ℕ) (c : Counts) (m : KeptMembers) {n : ℕ} (e : n ≡ countIn list c) where
   pub member-there : {a : Member} → k < n → a ≡ memberIn list m → answer a ≡ given (ltb k (countIn list c)) 7 0 (answer (memberIn list m))
   member-there p q = passes 7 0 (lt-ltb k (countIn list c) (omega arith)) (ap answer q)
 

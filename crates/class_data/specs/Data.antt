@@ -9,9 +9,9 @@ use Rattle.refusal.specs.Rows.{Found}
 use Rattle.leb128.specs.Leb.{ulebAt}
 use Rattle.frame.specs.declared.Frame.{Frame}
 use Rattle.class_members.specs.declared.Member.{Member}
-use Rattle.class_members.specs.declared.Judge.{Judge}
+use Rattle.class_members.specs.declared.MemberJudge.{MemberJudge}
 use Rattle.class_data.specs.declared.Counts.{Counts}
-use Rattle.class_data.specs.declared.Four.{Four}
+use Rattle.class_data.specs.declared.KeptMembers.{KeptMembers}
 use Rattle.class_data.specs.declared.Methods.{Methods}
 use Rattle.class_members.specs.Members.{membersAt, keptMembers, nobody}
 
@@ -20,16 +20,16 @@ pub record Both : Type 0 where
   pub first : ℕ
   pub second : ℕ
 
-unfoldable pub pairAt : List ℕ → ℕ → ℕ → Outcome (Found Both ℕ)
-pairAt s item p = do
+unfoldable pub twoNumbersAt : List ℕ → ℕ → ℕ → Outcome (Found Both ℕ)
+twoNumbersAt s item p = do
   a ← ulebAt s item p
   b ← ulebAt s item (a .next)
   answer (record { item = record { first = a .item; second = b .item }; next = b .next })
 
 unfoldable pub countsAt : List ℕ → ℕ → Outcome (Found Counts ℕ)
 countsAt s item = do
-  a ← pairAt s item item
-  b ← pairAt s item (a .next)
+  a ← twoNumbersAt s item item
+  b ← twoNumbersAt s item (a .next)
   answer (record { item = record { statics = a .item .first; instances = a .item .second; directs = b .item .first; virtuals = b .item .second }; next = b .next })
 
 -- two lists of one kind
@@ -37,16 +37,16 @@ pub record Two : Type 0 where
   pub first : List Member
   pub second : List Member
 
-unfoldable pub twoAt : List ℕ → Judge → ℕ → ℕ → ℕ → ℕ → Outcome (Found Two ℕ)
+unfoldable pub twoAt : List ℕ → MemberJudge → ℕ → ℕ → ℕ → ℕ → Outcome (Found Two ℕ)
 twoAt s j item from m n = do
   x ← membersAt s j item from m
   y ← membersAt s j item (x .next .place) n
   answer (record { item = record { first = x .item; second = y .item }; next = y .next .place })
 
-abbrev pub fields-judge : Frame → Judge
+abbrev pub fields-judge : Frame → MemberJudge
 fields-judge f = record { limit = f .fields; code = false; start = f .start }
 
-abbrev pub methods-judge : Frame → Judge
+abbrev pub methods-judge : Frame → MemberJudge
 methods-judge f = record { limit = f .methods; code = true; start = f .start }
 
 -- what the bytes say, where the methods begin, and the place after them
@@ -99,20 +99,20 @@ pub record KeptTwo : Type 0 where
   pub second : Member
   pub next : ℕ
 
-unfoldable pub keptTwo : List ℕ → Judge → ℕ → ℕ → ℕ → ℕ → ℕ → Outcome KeptTwo
+unfoldable pub keptTwo : List ℕ → MemberJudge → ℕ → ℕ → ℕ → ℕ → ℕ → Outcome KeptTwo
 keptTwo s j item from m n k = do
   x ← keptMembers s j item from m k
   y ← keptMembers s j item (x .next) n k
   answer (record { first = x .item; second = y .item; next = y .next })
 
-pub record Kept : Type 0 where
+pub record KeptData : Type 0 where
   pub counts : Counts
-  pub members : Four
+  pub members : KeptMembers
   pub methods : ℕ
   pub end : ℕ
 
-unfoldable pub keptAt : List ℕ → Frame → ℕ → ℕ → Outcome Kept
-keptAt s f item k = do
+unfoldable pub keptDataAt : List ℕ → Frame → ℕ → ℕ → Outcome KeptData
+keptDataAt s f item k = do
   c ← countsAt s item
   x ← keptTwo s (fields-judge f) item (c .next) (c .item .statics) (c .item .instances) k
   y ← keptTwo s (methods-judge f) item (x .next) (c .item .directs) (c .item .virtuals) k
@@ -121,5 +121,5 @@ keptAt s f item k = do
 unfoldable pub countIn : ℕ → Counts → ℕ
 countIn list c = one-of-four list (c .statics) (c .instances) (c .directs) (c .virtuals) 0
 
-unfoldable pub memberIn : ℕ → Four → Member
+unfoldable pub memberIn : ℕ → KeptMembers → Member
 memberIn list m = one-of-four list (m .statics) (m .instances) (m .directs) (m .virtuals) nobody

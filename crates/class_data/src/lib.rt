@@ -1,14 +1,14 @@
 // Class data: four counts, then static fields, instance fields, direct methods and virtual methods.
 // `s` ends where the data section ends, `item` is the place of the class data.
-use class_members::Judge;
 use class_members::Member;
-use class_members::MemberFound;
+use class_members::MemberFoundAnswer;
+use class_members::MemberJudge;
 use frame::Frame;
-use leb128::Leb;
+use leb128::LebAnswer;
 use refusal::Refusal;
 ghost use mathlib.Core.Path.{_≡_};
-ghost use Rattle.class_data.specs.Data.{pairAt, countsAt, keptTwo, keptAt, extentAt, methodsAt, memberOf, countIn, memberIn};
-ghost use Rattle.class_data.specs.Answers.{pair-outcome, counts-outcome, two-outcome, kept-outcome, data-outcome, member-outcome, methods-outcome};
+ghost use Rattle.class_data.specs.Data.{twoNumbersAt, countsAt, keptTwo, keptDataAt, extentAt, methodsAt, memberOf, countIn, memberIn};
+ghost use Rattle.class_data.specs.Answers.{two-numbers-outcome, counts-outcome, two-outcome, kept-data-outcome, data-outcome, member-outcome, methods-outcome};
 
 pub struct Counts {
     pub statics: u32,
@@ -18,14 +18,14 @@ pub struct Counts {
 }
 
 // One member of each list.
-pub struct Four {
+pub struct KeptMembers {
     pub statics: Member,
     pub instances: Member,
     pub directs: Member,
     pub virtuals: Member,
 }
 
-pub enum Pair {
+pub enum TwoNumbersAnswer {
     Got {
         first: u32,
         second: u32,
@@ -40,7 +40,7 @@ pub enum CountsAnswer {
 }
 
 // One member of each of two lists, and the place after them.
-pub enum TwoAnswer {
+pub enum TwoMembersAnswer {
     Got {
         first: Member,
         second: Member,
@@ -49,10 +49,10 @@ pub enum TwoAnswer {
     Refused(Refusal),
 }
 
-pub enum KeptAnswer {
+pub enum KeptDataAnswer {
     Got {
         counts: Counts,
-        members: Four,
+        members: KeptMembers,
         methods: usize,
         end: usize,
     },
@@ -83,20 +83,28 @@ pub enum MemberAnswer {
 }
 
 // Two lists of one kind, one after the other.
-fn two_at(s: &[u8], j: Judge, item: usize, from: usize, m: u32, n: u32, k: u32) -> TwoAnswer
+fn two_at(
+    s: &[u8],
+    j: MemberJudge,
+    item: usize,
+    from: usize,
+    m: u32,
+    n: u32,
+    k: u32,
+) -> TwoMembersAnswer
     ensures { λ r. ⌜ two-outcome r ≡ keptTwo (now (s .entry)) j item from m n k ⌝ }
 {
     match class_members::members_at(s, j, item, from, m, k) {
-        MemberFound::Refused(r) => TwoAnswer::Refused(r),
-        MemberFound::Got {
+        MemberFoundAnswer::Refused(r) => TwoMembersAnswer::Refused(r),
+        MemberFoundAnswer::Got {
             member: first,
             next: middle,
         } => match class_members::members_at(s, j, item, middle, n, k) {
-            MemberFound::Refused(r) => TwoAnswer::Refused(r),
-            MemberFound::Got {
+            MemberFoundAnswer::Refused(r) => TwoMembersAnswer::Refused(r),
+            MemberFoundAnswer::Got {
                 member: second,
                 next,
-            } => TwoAnswer::Got {
+            } => TwoMembersAnswer::Got {
                 first,
                 second,
                 next,
@@ -106,20 +114,20 @@ fn two_at(s: &[u8], j: Judge, item: usize, from: usize, m: u32, n: u32, k: u32) 
 }
 
 // Two numbers, one after the other.
-fn pair_at(s: &[u8], item: usize, at: usize) -> Pair
-    ensures { λ r. ⌜ pair-outcome r ≡ pairAt (now (s .entry)) item at ⌝ }
+fn pair_at(s: &[u8], item: usize, at: usize) -> TwoNumbersAnswer
+    ensures { λ r. ⌜ two-numbers-outcome r ≡ twoNumbersAt (now (s .entry)) item at ⌝ }
 {
     match leb128::uleb(s, at, item) {
-        Leb::Refused(r) => Pair::Refused(r),
-        Leb::Got {
+        LebAnswer::Refused(r) => TwoNumbersAnswer::Refused(r),
+        LebAnswer::Got {
             value: first,
             next: middle,
         } => match leb128::uleb(s, middle, item) {
-            Leb::Refused(r) => Pair::Refused(r),
-            Leb::Got {
+            LebAnswer::Refused(r) => TwoNumbersAnswer::Refused(r),
+            LebAnswer::Got {
                 value: second,
                 next,
-            } => Pair::Got {
+            } => TwoNumbersAnswer::Got {
                 first,
                 second,
                 next,
@@ -133,14 +141,14 @@ fn counts_at(s: &[u8], item: usize) -> CountsAnswer
     ensures { λ r. ⌜ counts-outcome r ≡ countsAt (now (s .entry)) item ⌝ }
 {
     match pair_at(s, item, item) {
-        Pair::Refused(r) => CountsAnswer::Refused(r),
-        Pair::Got {
+        TwoNumbersAnswer::Refused(r) => CountsAnswer::Refused(r),
+        TwoNumbersAnswer::Got {
             first: statics,
             second: instances,
             next: middle,
         } => match pair_at(s, item, middle) {
-            Pair::Refused(r) => CountsAnswer::Refused(r),
-            Pair::Got {
+            TwoNumbersAnswer::Refused(r) => CountsAnswer::Refused(r),
+            TwoNumbersAnswer::Got {
                 first: directs,
                 second: virtuals,
                 next,
@@ -158,38 +166,38 @@ fn counts_at(s: &[u8], item: usize) -> CountsAnswer
 }
 
 // The whole, of which member k of each list is kept.
-fn kept_at(s: &[u8], f: Frame, item: usize, k: u32) -> KeptAnswer
-    ensures { λ r. ⌜ kept-outcome r ≡ keptAt (now (s .entry)) f item k ⌝ }
+fn kept_at(s: &[u8], f: Frame, item: usize, k: u32) -> KeptDataAnswer
+    ensures { λ r. ⌜ kept-data-outcome r ≡ keptDataAt (now (s .entry)) f item k ⌝ }
 {
     match counts_at(s, item) {
-        CountsAnswer::Refused(r) => KeptAnswer::Refused(r),
+        CountsAnswer::Refused(r) => KeptDataAnswer::Refused(r),
         CountsAnswer::Got { counts, next } => {
-            let fields = Judge {
+            let fields = MemberJudge {
                 limit: f.fields,
                 code: false,
                 start: f.start,
             };
             match two_at(s, fields, item, next, counts.statics, counts.instances, k) {
-                TwoAnswer::Refused(r) => KeptAnswer::Refused(r),
-                TwoAnswer::Got {
+                TwoMembersAnswer::Refused(r) => KeptDataAnswer::Refused(r),
+                TwoMembersAnswer::Got {
                     first: statics,
                     second: instances,
                     next: middle,
                 } => {
-                    let methods = Judge {
+                    let methods = MemberJudge {
                         limit: f.methods,
                         code: true,
                         start: f.start,
                     };
                     match two_at(s, methods, item, middle, counts.directs, counts.virtuals, k) {
-                        TwoAnswer::Refused(r) => KeptAnswer::Refused(r),
-                        TwoAnswer::Got {
+                        TwoMembersAnswer::Refused(r) => KeptDataAnswer::Refused(r),
+                        TwoMembersAnswer::Got {
                             first: directs,
                             second: virtuals,
                             next: end,
-                        } => KeptAnswer::Got {
+                        } => KeptDataAnswer::Got {
                             counts,
-                            members: Four {
+                            members: KeptMembers {
                                 statics,
                                 instances,
                                 directs,
@@ -210,8 +218,8 @@ pub fn class_data_at(s: &[u8], f: Frame, item: usize) -> DataAnswer
     ensures { λ r. ⌜ data-outcome r ≡ extentAt (now (s .entry)) f item ⌝ }
 {
     match kept_at(s, f, item, 0) {
-        KeptAnswer::Refused(r) => DataAnswer::Refused(r),
-        KeptAnswer::Got {
+        KeptDataAnswer::Refused(r) => DataAnswer::Refused(r),
+        KeptDataAnswer::Got {
             counts,
             members: _,
             methods: _,
@@ -227,26 +235,26 @@ pub fn methods_at(s: &[u8], f: Frame, item: usize) -> MethodsAnswer
     match counts_at(s, item) {
         CountsAnswer::Refused(r) => MethodsAnswer::Refused(r),
         CountsAnswer::Got { counts, next } => {
-            let fields = Judge {
+            let fields = MemberJudge {
                 limit: f.fields,
                 code: false,
                 start: f.start,
             };
             match two_at(s, fields, item, next, counts.statics, counts.instances, 0) {
-                TwoAnswer::Refused(r) => MethodsAnswer::Refused(r),
-                TwoAnswer::Got {
+                TwoMembersAnswer::Refused(r) => MethodsAnswer::Refused(r),
+                TwoMembersAnswer::Got {
                     first: _,
                     second: _,
                     next: middle,
                 } => {
-                    let methods = Judge {
+                    let methods = MemberJudge {
                         limit: f.methods,
                         code: true,
                         start: f.start,
                     };
                     match two_at(s, methods, item, middle, counts.directs, counts.virtuals, 0) {
-                        TwoAnswer::Refused(r) => MethodsAnswer::Refused(r),
-                        TwoAnswer::Got {
+                        TwoMembersAnswer::Refused(r) => MethodsAnswer::Refused(r),
+                        TwoMembersAnswer::Got {
                             first: _,
                             second: _,
                             next: _,
@@ -282,7 +290,7 @@ fn count_in(list: u32, c: Counts) -> u32
 }
 
 // The member that is kept of a list.
-fn member_in(list: u32, m: Four) -> Member
+fn member_in(list: u32, m: KeptMembers) -> Member
     ensures { λ r. ⌜ r ≡ memberIn list m ⌝ }
 {
     if list == 0 {
@@ -309,8 +317,8 @@ pub fn member_at(s: &[u8], f: Frame, item: usize, list: u32, k: u32) -> MemberAn
     ensures { λ r. ⌜ member-outcome r ≡ memberOf (now (s .entry)) f item list k ⌝ }
 {
     match kept_at(s, f, item, k) {
-        KeptAnswer::Refused(r) => MemberAnswer::Refused(r),
-        KeptAnswer::Got {
+        KeptDataAnswer::Refused(r) => MemberAnswer::Refused(r),
+        KeptDataAnswer::Got {
             counts,
             members,
             methods: _,

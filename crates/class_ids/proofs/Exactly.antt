@@ -9,15 +9,15 @@ use Rattle.refusal.proofs.Exact.{same, answer-exact, given-exact, exact-iff, be
 use Rattle.frame.specs.declared.Frame.{Frame}
 use Rattle.frame.proofs.Laws.{or-absent-decides}
 use Rattle.class_ids.specs.declared.Class.{Class}
-use Rattle.class_ids.specs.declared.Words.{Words}
+use Rattle.class_ids.specs.declared.ClassWords.{ClassWords}
 use Rattle.class_ids.specs.Classes.{indexOrNone, wordsAt, classOf, placesOf, middleOf, firstOf, classAt}
-use Rattle.class_ids.specs.Rules.{IndexOrNone, WordsRule, ClassRule}
+use Rattle.class_ids.specs.Rules.{IndexOrNone, ClassWordsRule, ClassRule}
 
 or-none-decides : (v count : ℕ) → Decides (indexOrNone v count) (IndexOrNone v count)
 unfolding indexOrNone
 or-none-decides v count = one-of (equal v 0xffffffff) (below v count)
 
-words-exact : (r : Frame) (end place : ℕ) (w : Words) → Exact (firstOf r end place w) (λ (c : Class). WordsRule r end w × (classOf w ≡ c))
+words-exact : (r : Frame) (end place : ℕ) (w : ClassWords) → Exact (firstOf r end place w) (λ (c : Class). ClassWordsRule r end w × (classOf w ≡ c))
 unfolding firstOf middleOf placesOf
 words-exact r end place w =
     exact-iff

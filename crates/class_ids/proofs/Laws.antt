@@ -15,7 +15,7 @@ use Rattle.frame.specs.declared.Frame.{Frame}
 use Rattle.class_ids.specs.declared.Maybe.{Maybe}
 use Rattle.class_ids.specs.declared.Maybe.the-variants.{Number, Absent}
 use Rattle.class_ids.specs.declared.Class.{Class}
-use Rattle.class_ids.specs.declared.Words.{Words}
+use Rattle.class_ids.specs.declared.ClassWords.{ClassWords}
 use Rattle.class_ids.specs.declared.ClassAnswer.{ClassAnswer}
 use Rattle.class_ids.specs.Classes.{indexOrNone, maybeOf, wordsAt, classOf, firstOf, classAt}
 use Rattle.class_ids.specs.Answers.{class-outcome}
@@ -43,11 +43,11 @@ pub words-by : (f : List ℕ) (o : Endian) (offset n : ℕ) {a b c d e g h k : �
     → record { class = a; flags = b; superclass = c; interfaces = d; source = e; directory = g; «data» = h; values = k } ≡ wordsAt f o offset n
 words-by f o offset n p q r s t u v w = λ i. record { class = p i; flags = q i; superclass = r i; interfaces = s i; source = t i; directory = u i; «data» = v i; values = w i }
 
-pub class-by : (w : Words) {a b : Maybe} → a ≡ maybeOf (w .superclass) → b ≡ maybeOf (w .source)
+pub class-by : (w : ClassWords) {a b : Maybe} → a ≡ maybeOf (w .superclass) → b ≡ maybeOf (w .source)
     → record { class = w .class; flags = w .flags; superclass = a; interfaces = w .interfaces; source = b; directory = w .directory; «data» = w .«data»; values = w .values } ≡ classOf w
 class-by w p q = λ i. record { class = w .class; flags = w .flags; superclass = p i; interfaces = w .interfaces; source = q i; directory = w .directory; «data» = w .«data»; values = w .values }
 
-pub at-by : (f : List ℕ) (r : Frame) (end offset n : ℕ) {w : Words} {y : Outcome Class} → w ≡ wordsAt f (r .order) offset n → y ≡ firstOf r end (offset + 32 * n) w → y ≡ classAt f r end offset n
+pub at-by : (f : List ℕ) (r : Frame) (end offset n : ℕ) {w : ClassWords} {y : Outcome Class} → w ≡ wordsAt f (r .order) offset n → y ≡ firstOf r end (offset + 32 * n) w → y ≡ classAt f r end offset n
 unfolding classAt
 at-by f r end offset n e h = h ∙ ap (firstOf r end (offset + 32 * n)) e
 

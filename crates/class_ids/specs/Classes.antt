@@ -11,7 +11,7 @@ use Rattle.frame.specs.Offsets.{allowedOrAbsent}
 use Rattle.class_ids.specs.declared.Maybe.{Maybe}
 use Rattle.class_ids.specs.declared.Maybe.the-variants.{Number, Absent}
 use Rattle.class_ids.specs.declared.Class.{Class}
-use Rattle.class_ids.specs.declared.Words.{Words}
+use Rattle.class_ids.specs.declared.ClassWords.{ClassWords}
 
 -- "0xFFFFFFFF means none for superclass and source file only."
 unfoldable pub indexOrNone : ℕ → ℕ → Bool
@@ -20,7 +20,7 @@ indexOrNone v count = eqb v 0xffffffff || ltb v count
 unfoldable pub maybeOf : ℕ → Maybe
 maybeOf v = cond (eqb v 0xffffffff) Absent (Number v)
 
-abbrev pub wordsAt : List ℕ → Endian → ℕ → ℕ → Words
+abbrev pub wordsAt : List ℕ → Endian → ℕ → ℕ → ClassWords
 wordsAt f o offset n = record {
   class = u32At o f (offset + 32 * n);
   flags = u32At o f (offset + 32 * n + 4);
@@ -32,7 +32,7 @@ wordsAt f o offset n = record {
   values = u32At o f (offset + 32 * n + 28);
 }
 
-abbrev pub classOf : Words → Class
+abbrev pub classOf : ClassWords → Class
 classOf w = record {
   class = w .class;
   flags = w .flags;
@@ -45,7 +45,7 @@ classOf w = record {
 }
 
 -- directory (8), class data (8), static values (8)
-unfoldable pub placesOf : ℕ → ℕ → ℕ → Words → Outcome Class
+unfoldable pub placesOf : ℕ → ℕ → ℕ → ClassWords → Outcome Class
 placesOf start end place w =
     given (allowedOrAbsent start end true (w .directory)) 8 place
     (given (allowedOrAbsent start end false (w .«data»)) 8 place
@@ -53,14 +53,14 @@ placesOf start end place w =
     (answer (classOf w))))
 
 -- interfaces (8), source file (11 or none), then the places
-unfoldable pub middleOf : Frame → ℕ → ℕ → Words → Outcome Class
+unfoldable pub middleOf : Frame → ℕ → ℕ → ClassWords → Outcome Class
 middleOf r end place w =
     given (allowedOrAbsent (r .start) end true (w .interfaces)) 8 place
     (given (indexOrNone (w .source) (r .strings)) 11 place
     (placesOf (r .start) end place w))
 
 -- class (11), superclass (11 or none), then the others in stored order
-unfoldable pub firstOf : Frame → ℕ → ℕ → Words → Outcome Class
+unfoldable pub firstOf : Frame → ℕ → ℕ → ClassWords → Outcome Class
 firstOf r end place w =
     given (ltb (w .class) (r .types)) 11 place
     (given (indexOrNone (w .superclass) (r .types)) 11 place

@@ -7,13 +7,13 @@ use mathlib.Core.List.{List}
 use Rattle.frame.specs.declared.Frame.{Frame}
 use Rattle.frame.specs.Offsets.{AllowedOrAbsent}
 use Rattle.class_ids.specs.declared.Class.{Class}
-use Rattle.class_ids.specs.declared.Words.{Words}
+use Rattle.class_ids.specs.declared.ClassWords.{ClassWords}
 use Rattle.class_ids.specs.Classes.{wordsAt, classOf}
 
 abbrev pub IndexOrNone : ℕ → ℕ → Type 0
 IndexOrNone v count = (v ≡ 0xffffffff) ⊎ (v < count)
 
-pub record WordsRule (r : Frame) (end : ℕ) (w : Words) : Type 0 where
+pub record ClassWordsRule (r : Frame) (end : ℕ) (w : ClassWords) : Type 0 where
   pub class : w .class < r .types
   pub superclass : IndexOrNone (w .superclass) (r .types)
   pub interfaces : AllowedOrAbsent (r .start) end true (w .interfaces)
@@ -24,4 +24,4 @@ pub record WordsRule (r : Frame) (end : ℕ) (w : Words) : Type 0 where
 
 pub record ClassRule (f : List ℕ) (r : Frame) (end offset n : ℕ) (c : Class) : Type 0 where
   pub stands : classOf (wordsAt f (r .order) offset n) ≡ c
-  pub rule : WordsRule r end (wordsAt f (r .order) offset n)
+  pub rule : ClassWordsRule r end (wordsAt f (r .order) offset n)

@@ -30,7 +30,7 @@ pub enum ClassAnswer {
 }
 
 // The eight words of a record.
-pub struct Words {
+pub struct ClassWords {
     pub class: u32,
     pub flags: u32,
     pub superclass: u32,
@@ -60,11 +60,11 @@ fn maybe_of(v: u32) -> Maybe
     Maybe::Number(v)
 }
 
-fn words_at(f: &[u8], order: Endian, offset: u32, n: u32) -> Words
+fn words_at(f: &[u8], order: Endian, offset: u32, n: u32) -> ClassWords
     ensures { λ r. ⌜ r ≡ wordsAt (now (f .entry)) order offset n ⌝ }
 {
     let p = offset as usize + 32 * n as usize;
-    Words {
+    ClassWords {
         class: word::u32_at(f, p, order),
         flags: word::u32_at(f, p + 4, order),
         superclass: word::u32_at(f, p + 8, order),
@@ -77,7 +77,7 @@ fn words_at(f: &[u8], order: Endian, offset: u32, n: u32) -> Words
 }
 
 // What the words say.
-fn class_of(w: Words) -> Class
+fn class_of(w: ClassWords) -> Class
     ensures { λ r. ⌜ r ≡ classOf w ⌝ }
 {
     Class {
@@ -93,7 +93,7 @@ fn class_of(w: Words) -> Class
 }
 
 // The rules of the last three words: directory, class data, static values.
-fn places_of(start: usize, end: usize, place: usize, w: Words) -> ClassAnswer
+fn places_of(start: usize, end: usize, place: usize, w: ClassWords) -> ClassAnswer
     ensures { λ r. ⌜ class-outcome r ≡ placesOf start end place w ⌝ }
 {
     if frame::is_allowed_or_absent(start, end, true, w.directory as usize) {
@@ -109,7 +109,7 @@ fn places_of(start: usize, end: usize, place: usize, w: Words) -> ClassAnswer
 }
 
 // The rules of the words before those: interfaces, source file.
-fn middle_of(r: Frame, end: usize, place: usize, w: Words) -> ClassAnswer
+fn middle_of(r: Frame, end: usize, place: usize, w: ClassWords) -> ClassAnswer
     ensures { λ a. ⌜ class-outcome a ≡ middleOf r end place w ⌝ }
 {
     if frame::is_allowed_or_absent(r.start, end, true, w.interfaces as usize) {
@@ -122,7 +122,7 @@ fn middle_of(r: Frame, end: usize, place: usize, w: Words) -> ClassAnswer
 }
 
 // The rules of the words in stored order: class, superclass, then the others.
-fn first_of(r: Frame, end: usize, place: usize, w: Words) -> ClassAnswer
+fn first_of(r: Frame, end: usize, place: usize, w: ClassWords) -> ClassAnswer
     ensures { λ a. ⌜ class-outcome a ≡ firstOf r end place w ⌝ }
 {
     if r.types <= w.class {

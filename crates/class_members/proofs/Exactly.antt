@@ -19,7 +19,7 @@ use Rattle.leb128.proofs.Exactly.{uleb-exact}
 use Rattle.leb128.proofs.Laws.{uleb-span}
 use Rattle.frame.proofs.Laws.{or-absent-decides}
 use Rattle.class_members.specs.declared.Member.{Member}
-use Rattle.class_members.specs.declared.Judge.{Judge}
+use Rattle.class_members.specs.declared.MemberJudge.{MemberJudge}
 use Rattle.class_members.specs.Members.{apart, offsetAt, codeAt, restAt, memberAt, Run, stepAt, nobody, begin, membersAt}
 use Rattle.class_members.specs.Rules.{CodeOffsetRule, StoredMember, StoredMemberRule, added-up, LowerIndex, MembersRule}
 
@@ -48,7 +48,7 @@ abbrev goes-on : Found Member ℕ → Found Member Run
 goes-on m = record { item = m .item; next = record { place = m .next; last = m .item; later = true } }
 
 -- the numbers of a member, in the order of the reading
-pub record Numbers (s : List ℕ) (j : Judge) (t : Run) (m : Found Member ℕ) : Type 0 where
+pub record Numbers (s : List ℕ) (j : MemberJudge) (t : Run) (m : Found Member ℕ) : Type 0 where
   d : Found ℕ ℕ
   f : Found ℕ ℕ
   c : Found ℕ ℕ
@@ -59,7 +59,7 @@ pub record Numbers (s : List ℕ) (j : Judge) (t : Run) (m : Found Member ℕ) :
   code : CodeOffsetRule s (j .code) (j .start) (f .next) (c .item) (c .next)
   whole : said-by t d f c ≡ m
 
-numbers-exact : (s : List ℕ) (j : Judge) (item : ℕ) (t : Run) → Exact (memberAt s j item (t .last .index) (t .later) (t .place)) (Numbers s j t)
+numbers-exact : (s : List ℕ) (j : MemberJudge) (item : ℕ) (t : Run) → Exact (memberAt s j item (t .last .index) (t .later) (t .place)) (Numbers s j t)
 unfolding memberAt restAt
 numbers-exact s j item t =
     exact-iff
@@ -69,7 +69,7 @@ numbers-exact s j item t =
     (λ m h. (h .d, (h .stored, (h .apart-is, (h .below-is, (h .f, (h .flags, (h .c, (h .code, h .whole)))))))))
 
 -- a step of the reading: an index is the last one's and a difference, which is not 0 but in front
-record MemberStep (s : List ℕ) (j : Judge) (t : Run) (m : Member) (u : Run) : Type 0 where
+record MemberStep (s : List ℕ) (j : MemberJudge) (t : Run) (m : Member) (u : Run) : Type 0 where
   difference : ℕ
   after-difference : ℕ
   after-flags : ℕ
@@ -82,7 +82,7 @@ record MemberStep (s : List ℕ) (j : Judge) (t : Run) (m : Member) (u : Run) : 
   last : m ≡ u .last
   later : true ≡ u .later
 
-step-exact : (s : List ℕ) (j : Judge) (item : ℕ) (t : Run) → Exact (stepAt s j item t) (λ (r : Found Member Run). MemberStep s j t (r .item) (r .next))
+step-exact : (s : List ℕ) (j : MemberJudge) (item : ℕ) (t : Run) → Exact (stepAt s j item t) (λ (r : Found Member Run). MemberStep s j t (r .item) (r .next))
 unfolding stepAt
 step-exact s j item t =
     exact-iff (bind-exact _ _ (numbers-exact s j item t) (λ m. answer-exact (goes-on m)))
@@ -115,13 +115,13 @@ record StoredAfter (b : ℕ) (stored : List StoredMember) (k : ℕ) (m : Member)
   stands : At stored k (record { difference = difference; flags = m .flags; code = m .code })
   index : b + added-up (take (suc k) stored) ≡ m .index
 
-abbrev Low : Judge → List Member → Type 0
+abbrev Low : MemberJudge → List Member → Type 0
 Low j l = (k : ℕ) (m : Member) → At l k m → m .index < j .limit
 
 at-tail : {A : Type 0} {a b : A} {l : List A} {k : ℕ} → At (b ∷ l) (suc k) a → At l k a
 at-tail (there m) = m
 
-module _ (s : List ℕ) (j : Judge) where
+module _ (s : List ℕ) (j : MemberJudge) where
   -- a row of steps is a row of what is stored, in which differences add up
   record Laid (b n p : ℕ) (l : List Member) (q : ℕ) : Type 0 where
     stored : List StoredMember
@@ -203,7 +203,7 @@ module _ (s : List ℕ) (j : Judge) where
 abbrev last-of : Run → Option Member
 last-of t = cond (t .later) (some (t .last)) none
 
-steps-rise : (s : List ℕ) (j : Judge) {count p : ℕ} {l : List Member} {u : Run} → Row (MemberStep s j) count (begin p) l u → Rising LowerIndex l
+steps-rise : (s : List ℕ) (j : MemberJudge) {count p : ℕ} {l : List Member} {u : Run} → Row (MemberStep s j) count (begin p) l u → Rising LowerIndex l
 steps-rise s j r = row-rises LowerIndex last-of (MemberStep s j) after refl r
   where
     go : (t : Run) (m : Member) (b : Bool) (d : ℕ) → (b ≡ true → 0 < d) → t .last .index + d ≡ m .index → Follows LowerIndex (cond b (some (t .last)) none) m
@@ -217,7 +217,7 @@ steps-rise s j r = row-rises LowerIndex last-of (MemberStep s j) after refl r
 abbrev pub by-place : Found (List Member) Run → Found (List Member) ℕ
 by-place r = record { item = r .item; next = r .next .place }
 
-module _ (s : List ℕ) (j : Judge) (item from count : ℕ) where
+module _ (s : List ℕ) (j : MemberJudge) (item from count : ℕ) where
   steps-exact : Exact (membersAt s j item from count) (λ (r : Found (List Member) Run). Row (MemberStep s j) count (begin from) (r .item) (r .next))
   unfolding membersAt
   steps-exact = collect-exact (stepAt s j item) (MemberStep s j) (step-exact s j item) count (begin from)
@@ -261,7 +261,7 @@ unfolding added-up
 added-more here = omega arith
 added-more (there m) = let z = added-more m in omega arith
 
-pub later-difference : (s : List ℕ) (j : Judge) {p count q : ℕ} {l : List Member} (h : MembersRule s j p count l q) {k : ℕ} {t : StoredMember} → At (h .stored) (suc k) t → 0 < t .difference
+pub later-difference : (s : List ℕ) (j : MemberJudge) {p count q : ℕ} {l : List Member} (h : MembersRule s j p count l q) {k : ℕ} {t : StoredMember} → At (h .stored) (suc k) t → 0 < t .difference
 later-difference s j {l = l} h {k} {t} m =
     let long = h .members .count in
     let size = row-length (h .row) in
@@ -282,7 +282,7 @@ code-on : (s : List ℕ) (b : Bool) (start p c q : ℕ) → CodeOffsetRule s b s
 code-on s true start p c q h i = let z = uleb-on s (h .0) in (omega arith, z .1)
 code-on s false start p c q h i = let z = h .1 in (omega arith, omega arith)
 
-row-on : (s : List ℕ) (j : Judge) {n p q : ℕ} {l : List StoredMember} → Row (StoredMemberRule s j) n p l q → p ≤ length s → (p ≤ q) × (q ≤ length s)
+row-on : (s : List ℕ) (j : MemberJudge) {n p q : ℕ} {l : List StoredMember} → Row (StoredMemberRule s j) n p l q → p ≤ length s → (p ≤ q) × (q ≤ length s)
 row-on s j empty i = (omega arith, i)
 row-on s j (first {a = m} {t = v} h r) i =
     let a = uleb-on s (h .difference) in
@@ -291,5 +291,5 @@ row-on s j (first {a = m} {t = v} h r) i =
     let rest = row-on s j r (c .1) in
     (omega arith, rest .1)
 
-pub members-on : (s : List ℕ) (j : Judge) {p n q : ℕ} {l : List Member} → MembersRule s j p n l q → p ≤ length s → (p ≤ q) × (q ≤ length s)
+pub members-on : (s : List ℕ) (j : MemberJudge) {p n q : ℕ} {l : List Member} → MembersRule s j p n l q → p ≤ length s → (p ≤ q) × (q ≤ length s)
 members-on s j h i = row-on s j (h .row) i

@@ -17,20 +17,20 @@ use Rattle.refusal.proofs.Rows.{bind-assoc}
 use Rattle.refusal.proofs.Choose.{Choosing, choosing-first, choosing-next, choosing-stop, choosing-done, chosen-by}
 use Rattle.leb128.proofs.Laws.{on-leb}
 use Rattle.class_members.specs.declared.Member.{Member}
-use Rattle.class_members.specs.declared.Judge.{Judge}
-use Rattle.class_members.specs.declared.MemberFound.{MemberFound}
-use Rattle.class_members.specs.declared.MemberFound.the-variants as F
+use Rattle.class_members.specs.declared.MemberJudge.{MemberJudge}
+use Rattle.class_members.specs.declared.MemberFoundAnswer.{MemberFoundAnswer}
+use Rattle.class_members.specs.declared.MemberFoundAnswer.the-variants as F
 use Rattle.class_members.specs.Members.{memberAt, Run, stepAt, nobody, begin, membersAt, placed, keptMembers}
 use Rattle.class_members.specs.Answers.{found-outcome}
 
 -- ---- the loop of `members_at` at its head: of the last member its index is held, of the kept one each field
-pub record Members (s : List ℕ) (j : Judge) (item from count k left p base : ℕ) (later : Bool) (i index flags code : ℕ) : Type 0 where
+pub record Members (s : List ℕ) (j : MemberJudge) (item from count k left p base : ℕ) (later : Bool) (i index flags code : ℕ) : Type 0 where
   last : Member
   base-is : last .index ≡ base
   choosing : Choosing (stepAt s j item) count (begin from) nobody k left (record { place = p; last = last; later = later }) i (record { index = index; flags = flags; code = code })
   pub sum : i + left ≡ count
 
-pub members-first : (s : List ℕ) (j : Judge) (item from count k : ℕ) → Members s j item from count k count from 0 false 0 0 0 0
+pub members-first : (s : List ℕ) (j : MemberJudge) (item from count k : ℕ) → Members s j item from count k count from 0 false 0 0 0 0
 members-first s j item from count k = record { last = nobody; base-is = refl; choosing = choosing-first (stepAt s j item) count (begin from) nobody k; sum = omega arith }
 
 -- the newer of two members, field by field
@@ -38,8 +38,8 @@ by-fields : (b : Bool) (a c : Member) → record { index = cond b (a .index) (c 
 by-fields true a c = refl
 by-fields false a c = refl
 
-module _ {s : List ℕ} {j : Judge} {item from count k left p base : ℕ} {later : Bool} {i index flags code : ℕ} (h : Members s j item from count k left p base later i index flags code)
-    {x : MemberFound} (l : 0 < left) (e : found-outcome x ≡ memberAt s j item base later p) where
+module _ {s : List ℕ} {j : MemberJudge} {item from count k left p base : ℕ} {later : Bool} {i index flags code : ℕ} (h : Members s j item from count k left p base later i index flags code)
+    {x : MemberFoundAnswer} (l : 0 < left) (e : found-outcome x ≡ memberAt s j item base later p) where
   pub members-next : {a : Member} {n v f c : ℕ} → x ≡ F.Got a n → v ≡ cond (eqb i k) (a .index) index → f ≡ cond (eqb i k) (a .flags) flags → c ≡ cond (eqb i k) (a .code) code
       → Members s j item from count k (left - 1) n (a .index) true (i + 1) v f c
   unfolding stepAt
@@ -56,19 +56,19 @@ module _ {s : List ℕ} {j : Judge} {item from count k left p base : ℕ} {later
   unfolding keptMembers stepAt
   members-stop t = sym (bind-refused placed (sym (choosing-stop (h .choosing) l (sym (bind-refused _ (sym (sym (ap found-outcome t) ∙ e ∙ ap (λ (b : ℕ). memberAt s j item b later p) (sym (h .base-is)))))))))
 
-pub members-done : {s : List ℕ} {j : Judge} {item from count k left p base : ℕ} {later : Bool} {i index flags code : ℕ} → Members s j item from count k left p base later i index flags code
+pub members-done : {s : List ℕ} {j : MemberJudge} {item from count k left p base : ℕ} {later : Bool} {i index flags code : ℕ} → Members s j item from count k left p base later i index flags code
     → left ≤ 0 → answer (record { item = record { index = index; flags = flags; code = code }; next = p }) ≡ keptMembers s j item from count k
 unfolding keptMembers
 members-done h l = sym (bind-answer placed (sym (choosing-done (h .choosing) l)))
 
 -- ---- a call, by the arm that was taken
-pub on-found : {B : Type 0} {x c : MemberFound} {o : Outcome (Found Member ℕ)} {y : Outcome B} (k : Found Member ℕ → Outcome B)
+pub on-found : {B : Type 0} {x c : MemberFoundAnswer} {o : Outcome (Found Member ℕ)} {y : Outcome B} (k : Found Member ℕ → Outcome B)
     → found-outcome x ≡ o → x ≡ c → y ≡ (found-outcome c >>= k) → y ≡ (o >>= k)
 on-found = said found-outcome
 
 -- ---- of a list one member is kept
 module _ (s : List ℕ) (item k : ℕ) {B : Type 0} where
-  pub members-by : (j : Judge) (from n : ℕ) (f : Found (List Member) Run → Outcome B) (g : Found Member ℕ → Outcome B)
+  pub members-by : (j : MemberJudge) (from n : ℕ) (f : Found (List Member) Run → Outcome B) (g : Found Member ℕ → Outcome B)
       → ((r : Found (List Member) Run) → length (r .item) ≡ n → f r ≡ g (record { item = getD (r .item) k nobody; next = r .next .place }))
       → (membersAt s j item from n >>= f) ≡ (keptMembers s j item from n k >>= g)
   unfolding membersAt keptMembers

@@ -3,8 +3,8 @@ use Prim.Native.Nat.{ℕ}
 use Rattle.refusal.specs.Outcome.{Outcome, answer, refused}
 use Rattle.refusal.specs.Rows.{Found}
 use Rattle.class_members.specs.declared.Member.{Member}
-use Rattle.class_members.specs.declared.MemberFound as F
+use Rattle.class_members.specs.declared.MemberFoundAnswer as F
 
-abbrev pub found-outcome : F.MemberFound → Outcome (Found Member ℕ)
+abbrev pub found-outcome : F.MemberFoundAnswer → Outcome (Found Member ℕ)
 found-outcome (F.the-variants.Got m n) = answer (record { item = m; next = n })
 found-outcome (F.the-variants.Refused r) = refused r

@@ -10,7 +10,7 @@ use Rattle.refusal.specs.Choose.{choose}
 use Rattle.leb128.specs.Leb.{ulebAt}
 use Rattle.frame.specs.Offsets.{allowedOrAbsent}
 use Rattle.class_members.specs.declared.Member.{Member}
-use Rattle.class_members.specs.declared.Judge.{Judge}
+use Rattle.class_members.specs.declared.MemberJudge.{MemberJudge}
 
 -- "a later difference of 0 is 15"
 unfoldable pub apart : Bool → ℕ → Bool
@@ -27,14 +27,14 @@ unfoldable pub codeAt : List ℕ → Bool → ℕ → ℕ → ℕ → Outcome (F
 codeAt s code start item p = cond code (offsetAt s start item p) (answer (record { item = 0; next = p }))
 
 -- flags and code offset
-unfoldable pub restAt : List ℕ → Judge → ℕ → ℕ → ℕ → Outcome (Found Member ℕ)
+unfoldable pub restAt : List ℕ → MemberJudge → ℕ → ℕ → ℕ → Outcome (Found Member ℕ)
 restAt s j item index p = do
   f ← ulebAt s item p
   c ← codeAt s (j .code) (j .start) item (f .next)
   answer (record { item = record { index = index; flags = f .item; code = c .item }; next = c .next })
 
 -- a member after one whose index is `base`: "Member indices start with the first number and add each difference"; "11: an index in the file is out of range"
-unfoldable pub memberAt : List ℕ → Judge → ℕ → ℕ → Bool → ℕ → Outcome (Found Member ℕ)
+unfoldable pub memberAt : List ℕ → MemberJudge → ℕ → ℕ → Bool → ℕ → Outcome (Found Member ℕ)
 memberAt s j item base later p = do
   d ← ulebAt s item p
   given (apart later (d .item)) 15 item
@@ -47,7 +47,7 @@ pub record Run : Type 0 where
   pub last : Member
   pub later : Bool
 
-unfoldable pub stepAt : List ℕ → Judge → ℕ → Run → Outcome (Found Member Run)
+unfoldable pub stepAt : List ℕ → MemberJudge → ℕ → Run → Outcome (Found Member Run)
 stepAt s j item t = do
   m ← memberAt s j item (t .last .index) (t .later) (t .place)
   answer (record { item = m .item; next = record { place = m .next; last = m .item; later = true } })
@@ -59,12 +59,12 @@ nobody = record { index = 0; flags = 0; code = 0 }
 abbrev pub begin : ℕ → Run
 begin from = record { place = from; last = nobody; later = false }
 
-unfoldable pub membersAt : List ℕ → Judge → ℕ → ℕ → ℕ → Outcome (Found (List Member) Run)
+unfoldable pub membersAt : List ℕ → MemberJudge → ℕ → ℕ → ℕ → Outcome (Found (List Member) Run)
 membersAt s j item from count = collect count (stepAt s j item) (begin from)
 
 -- a stage of the code: one member is kept, and the place
 abbrev pub placed : Found Member Run → Outcome (Found Member ℕ)
 placed r = answer (record { item = r .item; next = r .next .place })
 
-unfoldable pub keptMembers : List ℕ → Judge → ℕ → ℕ → ℕ → ℕ → Outcome (Found Member ℕ)
+unfoldable pub keptMembers : List ℕ → MemberJudge → ℕ → ℕ → ℕ → ℕ → Outcome (Found Member ℕ)
 keptMembers s j item from count k = choose count (stepAt s j item) nobody k (begin from) >>= placed

@@ -8,7 +8,7 @@ use Rattle.refusal.specs.Exact.{Row, At, Each, Rising}
 use Rattle.leb128.specs.Rules.{Uleb}
 use Rattle.frame.specs.Offsets.{AllowedOrAbsent}
 use Rattle.class_members.specs.declared.Member.{Member}
-use Rattle.class_members.specs.declared.Judge.{Judge}
+use Rattle.class_members.specs.declared.MemberJudge.{MemberJudge}
 
 -- a method's code offset stands at p and ends at q; a field has none
 abbrev pub CodeOffsetRule : List ℕ → Bool → ℕ → ℕ → ℕ → ℕ → Type 0
@@ -22,7 +22,7 @@ pub record StoredMember : Type 0 where
   pub code : ℕ
 
 -- it stands from p to q
-pub record StoredMemberRule (s : List ℕ) (j : Judge) (p : ℕ) (t : StoredMember) (q : ℕ) : Type 0 where
+pub record StoredMemberRule (s : List ℕ) (j : MemberJudge) (p : ℕ) (t : StoredMember) (q : ℕ) : Type 0 where
   pub after-difference : ℕ
   pub after-flags : ℕ
   pub difference : Uleb s p (record { item = t .difference; next = after-difference })
@@ -44,7 +44,7 @@ abbrev pub LowerIndex : Member → Member → Type 0
 LowerIndex a b = a .index < b .index
 
 -- a list of members from p to q: "Each of the four lists starts anew."
-pub record MembersRule (s : List ℕ) (j : Judge) (p count : ℕ) (l : List Member) (q : ℕ) : Type 0 where
+pub record MembersRule (s : List ℕ) (j : MemberJudge) (p count : ℕ) (l : List Member) (q : ℕ) : Type 0 where
   pub stored : List StoredMember
   pub row : Row (StoredMemberRule s j) count p stored q
   pub members : Each (StoredAs stored) count l

@@ -1,6 +1,6 @@
 // The members of one list of class data: fields or methods, each with the difference to the one before.
 // `s` ends where the data section ends, `item` is the place of the class data.
-use leb128::Leb;
+use leb128::LebAnswer;
 use refusal::Refusal;
 ghost use mathlib.Core.Path.{_≡_};
 ghost use mathlib.Core.Bool.{cond};
@@ -16,14 +16,14 @@ pub struct Member {
 }
 
 // What the members of a list are judged by: how many there are to name, and whether a code offset follows.
-pub struct Judge {
+pub struct MemberJudge {
     pub limit: u32,
     pub code: bool,
     pub start: usize,
 }
 
 // A member and the place after it.
-pub enum MemberFound {
+pub enum MemberFoundAnswer {
     Got { member: Member, next: usize },
     Refused(Refusal),
 }
@@ -39,16 +39,16 @@ fn is_apart(later: bool, difference: u32) -> bool
 }
 
 // A code offset: 0, or a multiple of 4 in the data section.
-fn offset_at(s: &[u8], start: usize, item: usize, at: usize) -> Leb
+fn offset_at(s: &[u8], start: usize, item: usize, at: usize) -> LebAnswer
     ensures { λ r. ⌜ leb-outcome r ≡ offsetAt (now (s .entry)) start item at ⌝ }
 {
     match leb128::uleb(s, at, item) {
-        Leb::Refused(r) => Leb::Refused(r),
-        Leb::Got { value, next } => {
+        LebAnswer::Refused(r) => LebAnswer::Refused(r),
+        LebAnswer::Got { value, next } => {
             if frame::is_allowed_or_absent(start, s.len(), true, value as usize) {
-                return Leb::Got { value, next };
+                return LebAnswer::Got { value, next };
             }
-            Leb::Refused(Refusal {
+            LebAnswer::Refused(Refusal {
                 number: 8,
                 place: item,
             })
@@ -57,27 +57,27 @@ fn offset_at(s: &[u8], start: usize, item: usize, at: usize) -> Leb
 }
 
 // The code offset of a method; a field has none.
-fn code_at(s: &[u8], code: bool, start: usize, item: usize, at: usize) -> Leb
+fn code_at(s: &[u8], code: bool, start: usize, item: usize, at: usize) -> LebAnswer
     ensures { λ r. ⌜ leb-outcome r ≡ codeAt (now (s .entry)) code start item at ⌝ }
 {
     if code {
         return offset_at(s, start, item, at);
     }
-    Leb::Got { value: 0, next: at }
+    LebAnswer::Got { value: 0, next: at }
 }
 
 // What follows a member's difference.
-fn rest_at(s: &[u8], j: Judge, item: usize, index: u32, at: usize) -> MemberFound
+fn rest_at(s: &[u8], j: MemberJudge, item: usize, index: u32, at: usize) -> MemberFoundAnswer
     ensures { λ r. ⌜ found-outcome r ≡ restAt (now (s .entry)) j item index at ⌝ }
 {
     match leb128::uleb(s, at, item) {
-        Leb::Refused(r) => MemberFound::Refused(r),
-        Leb::Got { value: flags, next } => match code_at(s, j.code, j.start, item, next) {
-            Leb::Refused(r) => MemberFound::Refused(r),
-            Leb::Got {
+        LebAnswer::Refused(r) => MemberFoundAnswer::Refused(r),
+        LebAnswer::Got { value: flags, next } => match code_at(s, j.code, j.start, item, next) {
+            LebAnswer::Refused(r) => MemberFoundAnswer::Refused(r),
+            LebAnswer::Got {
                 value: code,
                 next: after,
-            } => MemberFound::Got {
+            } => MemberFoundAnswer::Got {
                 member: Member { index, flags, code },
                 next: after,
             },
@@ -88,28 +88,28 @@ fn rest_at(s: &[u8], j: Judge, item: usize, index: u32, at: usize) -> MemberFoun
 // A member, after one whose index is `base`, or as the first of its list.
 pub fn member_found(
     s: &[u8],
-    j: Judge,
+    j: MemberJudge,
     item: usize,
     base: u32,
     later: bool,
     at: usize,
-) -> MemberFound
+) -> MemberFoundAnswer
     ensures { λ r. ⌜ found-outcome r ≡ memberAt (now (s .entry)) j item base later at ⌝ }
 {
     match leb128::uleb(s, at, item) {
-        Leb::Refused(r) => MemberFound::Refused(r),
-        Leb::Got { value, next } => {
+        LebAnswer::Refused(r) => MemberFoundAnswer::Refused(r),
+        LebAnswer::Got { value, next } => {
             if is_apart(later, value) {
                 let index = base as u64 + value as u64;
                 if index < j.limit as u64 {
                     return rest_at(s, j, item, index as u32, next);
                 }
-                return MemberFound::Refused(Refusal {
+                return MemberFoundAnswer::Refused(Refusal {
                     number: 11,
                     place: item,
                 });
             }
-            MemberFound::Refused(Refusal {
+            MemberFoundAnswer::Refused(Refusal {
                 number: 15,
                 place: item,
             })
@@ -128,7 +128,14 @@ fn newer(asked: bool, new: u32, old: u32) -> u32
 }
 
 // All members of a list, of which number k is kept, field by field: a copy of the whole would wait for the stores of its fields.
-pub fn members_at(s: &[u8], j: Judge, item: usize, from: usize, count: u32, k: u32) -> MemberFound
+pub fn members_at(
+    s: &[u8],
+    j: MemberJudge,
+    item: usize,
+    from: usize,
+    count: u32,
+    k: u32,
+) -> MemberFoundAnswer
     ensures { λ r. ⌜ found-outcome r ≡ keptMembers (now (s .entry)) j item from count k ⌝ }
 {
     let mut p = from;
@@ -141,10 +148,10 @@ pub fn members_at(s: &[u8], j: Judge, item: usize, from: usize, count: u32, k: u
     let mut left = count;
     while 0 < left {
         match member_found(s, j, item, last, later, p) {
-            MemberFound::Refused(r) => {
-                return MemberFound::Refused(r);
+            MemberFoundAnswer::Refused(r) => {
+                return MemberFoundAnswer::Refused(r);
             }
-            MemberFound::Got { member, next } => {
+            MemberFoundAnswer::Got { member, next } => {
                 index = newer(i == k, member.index, index);
                 flags = newer(i == k, member.flags, flags);
                 code = newer(i == k, member.code, code);
@@ -156,7 +163,7 @@ pub fn members_at(s: &[u8], j: Judge, item: usize, from: usize, count: u32, k: u
         i += 1;
         left -= 1;
     }
-    MemberFound::Got {
+    MemberFoundAnswer::Got {
         member: Member { index, flags, code },
         next: p,
     }

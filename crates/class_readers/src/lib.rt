@@ -28,19 +28,19 @@ pub enum SpotAnswer {
     Refused(Refusal),
 }
 
-pub enum MaybeData {
+pub enum MaybeDataAnswer {
     Absent,
     Got(Counts),
     Refused(Refusal),
 }
 
-pub enum MaybeMember {
+pub enum MaybeMemberAnswer {
     Absent,
     Got(Member),
     Refused(Refusal),
 }
 
-pub enum MaybeCount {
+pub enum MaybeCountAnswer {
     Absent,
     Got(usize),
     Refused(Refusal),

@@ -12,7 +12,7 @@ ghost use lib.ListN.{length};
 ghost use Rattle.class_readers.specs.Members.{countsUnder, classData, memberUnder, memberNumber, memberFlags, memberContent};
 ghost use Rattle.class_readers.specs.Answers.{maybe-data, maybe-member, maybe-count};
 
-fn counts_under(f: &[u8], s: Spot) -> MaybeData
+fn counts_under(f: &[u8], s: Spot) -> MaybeDataAnswer
     ensures { λ r. ⌜ maybe-data r ≡ countsUnder (now (f .entry)) s ⌝ }
 {
     let h = s.header;
@@ -21,23 +21,23 @@ fn counts_under(f: &[u8], s: Spot) -> MaybeData
         header::frame_of(h, 0),
         s.place as usize,
     ) {
-        DataAnswer::Refused(r) => MaybeData::Refused(r),
-        DataAnswer::Got { counts, end: _ } => MaybeData::Got(counts),
+        DataAnswer::Refused(r) => MaybeDataAnswer::Refused(r),
+        DataAnswer::Got { counts, end: _ } => MaybeDataAnswer::Got(counts),
     }
 }
 
 // How many members the four lists of class c have.
-pub fn class_data(f: &[u8], c: u32) -> MaybeData
+pub fn class_data(f: &[u8], c: u32) -> MaybeDataAnswer
     ensures { λ r. ⌜ maybe-data r ≡ classData (now (f .entry)) c ⌝ }
 {
     match super::spots::data_spot(f, c) {
-        SpotAnswer::Refused(r) => MaybeData::Refused(r),
-        SpotAnswer::Absent => MaybeData::Absent,
+        SpotAnswer::Refused(r) => MaybeDataAnswer::Refused(r),
+        SpotAnswer::Absent => MaybeDataAnswer::Absent,
         SpotAnswer::Got(s) => counts_under(f, s),
     }
 }
 
-fn member_under(f: &[u8], s: Spot, list: u32, k: u32) -> MaybeMember
+fn member_under(f: &[u8], s: Spot, list: u32, k: u32) -> MaybeMemberAnswer
     ensures { λ r. ⌜ maybe-member r ≡ memberUnder (now (f .entry)) list k s ⌝ }
 {
     let h = s.header;
@@ -48,33 +48,33 @@ fn member_under(f: &[u8], s: Spot, list: u32, k: u32) -> MaybeMember
         list,
         k,
     ) {
-        MemberAnswer::Refused(r) => MaybeMember::Refused(r),
-        MemberAnswer::Got(m) => MaybeMember::Got(m),
+        MemberAnswer::Refused(r) => MaybeMemberAnswer::Refused(r),
+        MemberAnswer::Got(m) => MaybeMemberAnswer::Got(m),
     }
 }
 
 // Member k of a list of class c: its index, its access flags, and the offset of its code, 0 for a field.
-pub fn member(f: &[u8], c: u32, list: u32, k: u32) -> MaybeMember
+pub fn member(f: &[u8], c: u32, list: u32, k: u32) -> MaybeMemberAnswer
     ensures { λ r. ⌜ maybe-member r ≡ memberNumber (now (f .entry)) c list k ⌝ }
 {
     match super::spots::data_spot(f, c) {
-        SpotAnswer::Refused(r) => MaybeMember::Refused(r),
-        SpotAnswer::Absent => MaybeMember::Absent,
+        SpotAnswer::Refused(r) => MaybeMemberAnswer::Refused(r),
+        SpotAnswer::Absent => MaybeMemberAnswer::Absent,
         SpotAnswer::Got(s) => member_under(f, s, list, k),
     }
 }
 
 // Its access flags as bit numbers in a lent output: how many; 19, writing nothing, where the output is shorter.
-pub fn member_flags(f: &[u8], c: u32, list: u32, k: u32, out: &mut [u8]) -> MaybeCount
+pub fn member_flags(f: &[u8], c: u32, list: u32, k: u32, out: &mut [u8]) -> MaybeCountAnswer
     ensures answer { λ r. ⌜ maybe-count r ≡ memberFlags (now (f .entry)) c list k (length (now (out .entry))) ⌝ }
     ensures content { λ r. ⌜ now (out .exit) ≡ memberContent (now (f .entry)) c list k (now (out .entry)) ⌝ }
 {
     match member(f, c, list, k) {
-        MaybeMember::Refused(r) => MaybeCount::Refused(r),
-        MaybeMember::Absent => MaybeCount::Absent,
-        MaybeMember::Got(m) => match access_flags::flags_into(m.flags, false, out) {
-            FlagsAnswer::Refused(r) => MaybeCount::Refused(r),
-            FlagsAnswer::Got(n) => MaybeCount::Got(n),
+        MaybeMemberAnswer::Refused(r) => MaybeCountAnswer::Refused(r),
+        MaybeMemberAnswer::Absent => MaybeCountAnswer::Absent,
+        MaybeMemberAnswer::Got(m) => match access_flags::flags_into(m.flags, false, out) {
+            FlagsAnswer::Refused(r) => MaybeCountAnswer::Refused(r),
+            FlagsAnswer::Got(n) => MaybeCountAnswer::Got(n),
         },
     }
 }

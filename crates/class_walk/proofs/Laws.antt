@@ -8,8 +8,8 @@ use mathlib.Core.List.{List}
 use lib.ListN.{length}
 use borrow.Author.Needs.{needs}
 use Rattle.refusal.specs.declared.Refusal.{Refusal}
-use Rattle.refusal.specs.declared.Checked.{Checked}
-use Rattle.refusal.specs.declared.Checked.the-variants as C
+use Rattle.refusal.specs.declared.CheckAnswer.{CheckAnswer}
+use Rattle.refusal.specs.declared.CheckAnswer.the-variants as C
 use Rattle.refusal.specs.Outcome.{Outcome, answer, refused, _>>=_, present, accepted}
 use Rattle.refusal.specs.Rows.{Found, past, collect, through, with-below}
 use Rattle.refusal.specs.Answers.{checked-outcome}
@@ -26,8 +26,8 @@ use Rattle.class_ids.specs.Classes.{classAt}
 use Rattle.class_ids.proofs.Laws.{laws as class-laws}
 use Rattle.class_members.specs.declared.Member.{Member}
 use Rattle.class_data.specs.declared.Methods.{Methods}
-use Rattle.class_members.specs.declared.MemberFound.{MemberFound}
-use Rattle.class_members.specs.declared.MemberFound.the-variants as F
+use Rattle.class_members.specs.declared.MemberFoundAnswer.{MemberFoundAnswer}
+use Rattle.class_members.specs.declared.MemberFoundAnswer.the-variants as F
 use Rattle.class_members.specs.Answers.{found-outcome}
 use Rattle.class_members.specs.Members.{Run, memberAt, stepAt, begin, membersAt, nobody}
 use Rattle.class_data.specs.Data.{ClassData, classDataAt, methodsAt, methods-judge}
@@ -49,7 +49,7 @@ use Rattle.encoded_value.specs.Readings.{arrayAt, pastArray}
 use Rattle.encoded_value.proofs.Leaves.{on-step}
 use Rattle.annotation_walk.specs.Below.{directoryBelow}
 use Rattle.type_list.specs.Below.{typesBelow}
-use Rattle.class_walk.specs.declared.Passed.{Passed}
+use Rattle.class_walk.specs.declared.PassedAnswer.{PassedAnswer}
 use Rattle.class_walk.specs.Answers.{passed-outcome}
 use Rattle.class_walk.specs.Methods.{Body, DataBelow, bodyAt, methodBelow, dataBelow, debugAccepted, methodsPass, bothPass}
 use Rattle.class_walk.specs.Classes.{valuesAt, annotationsAt, dataAt, staticsAt, below, classBelow, belowPass}
@@ -81,7 +81,7 @@ pub going-first : (s : List ℕ) (f : Frame) (item from count : ℕ) → Going s
 going-first s f item from count = record { gather = gather-first (going s f item) count (begin from) }
 
 module _ {s : List ℕ} {f : Frame} {item from count left p : ℕ} {last : Member} {later : Bool} (h : Going s f item from count left p last later)
-    {x : MemberFound} (l : 0 < left) (e : found-outcome x ≡ memberAt s (methods-judge f) item (last .index) later p) where
+    {x : MemberFoundAnswer} (l : 0 < left) (e : found-outcome x ≡ memberAt s (methods-judge f) item (last .index) later p) where
   step-refused : {r : Refusal} → x ≡ F.Refused r → going s f item (run-of p last later) ≡ refused r
   unfolding with-below stepAt
   step-refused t = bind-refused _ (bind-refused _ (sym e ∙ ap found-outcome t))
@@ -97,7 +97,7 @@ module _ {s : List ℕ} {f : Frame} {item from count left p : ℕ} {last : Membe
         bind-answer (λ (r : Found Member Run). methodBelow s f (r .item) >>= λ (b : Option Body). answer (record { item = b; next = r .next })) (bind-answer _ (sym e ∙ ap found-outcome t))
         ∙ ap (λ (z : Outcome (Option Body)). z >>= λ (b : Option Body). answer (record { item = b; next = run-of n m true })) q
 
-    module _ {y : Checked} (g : checked-outcome y ≡ (present (m .code) (bodyAt s f (m .code)) >>= accepted)) where
+    module _ {y : CheckAnswer} (g : checked-outcome y ≡ (present (m .code) (bodyAt s f (m .code)) >>= accepted)) where
       pub going-next : y ≡ C.Accepted → Going s f item from count (left - 1) n m true
       unfolding methodBelow
       going-next u =
@@ -124,11 +124,11 @@ pub goes-first : (s : List ℕ) (f : Frame) (item from count : ℕ) → Goes s f
 goes-first s f item from count = record { last = nobody; base-is = refl; goes = going-first s f item from count }
 
 module _ {s : List ℕ} {f : Frame} {item from count left p base : ℕ} {later : Bool} (h : Goes s f item from count left p base later)
-    {x : MemberFound} (l : 0 < left) (e : found-outcome x ≡ memberAt s (methods-judge f) item base later p) where
+    {x : MemberFoundAnswer} (l : 0 < left) (e : found-outcome x ≡ memberAt s (methods-judge f) item base later p) where
   pub goes-stop : {r : Refusal} → x ≡ F.Refused r → refused r ≡ methodsPass s f item from count
   goes-stop t = going-stop (h .goes) l (e ∙ ap (λ (b : ℕ). memberAt s (methods-judge f) item b later p) (sym (h .base-is))) t
 
-  module _ {m : Member} {n : ℕ} (t : x ≡ F.Got m n) {y : Checked} (g : checked-outcome y ≡ (present (m .code) (bodyAt s f (m .code)) >>= accepted)) where
+  module _ {m : Member} {n : ℕ} (t : x ≡ F.Got m n) {y : CheckAnswer} (g : checked-outcome y ≡ (present (m .code) (bodyAt s f (m .code)) >>= accepted)) where
     pub goes-next : y ≡ C.Accepted → Goes s f item from count (left - 1) n (m .index) true
     goes-next u = record { last = m; base-is = refl; goes = going-next (h .goes) l (e ∙ ap (λ (b : ℕ). memberAt s (methods-judge f) item b later p) (sym (h .base-is))) t g u }
 
@@ -180,7 +180,7 @@ module _ (s : List ℕ) (f : Frame) (item : ℕ) where
   unfolding dataBelow methodsAt
   data-by e = e ∙ sym (kept-part (classDataAt s f item) methods-of _ (λ (m : Methods). bothPass s f item m) both-of)
 
-pub on-passed : {B : Type 0} {x c : Passed} {o : Outcome ℕ} {y : Outcome B} (k : ℕ → Outcome B) → passed-outcome x ≡ o → x ≡ c → y ≡ (passed-outcome c >>= k) → y ≡ (o >>= k)
+pub on-passed : {B : Type 0} {x c : PassedAnswer} {o : Outcome ℕ} {y : Outcome B} (k : ℕ → Outcome B) → passed-outcome x ≡ o → x ≡ c → y ≡ (passed-outcome c >>= k) → y ≡ (o >>= k)
 on-passed = said passed-outcome
 
 -- ---- directories and static values that may be absent

@@ -3,14 +3,14 @@
 use class_data::Methods;
 use class_data::MethodsAnswer;
 use class_ids::ClassAnswer;
-use class_members::Judge;
-use class_members::MemberFound;
+use class_members::MemberFoundAnswer;
+use class_members::MemberJudge;
 use code_item::CodeAnswer;
 use debug_info::DebugAnswer;
-use encoded_value::Step;
+use encoded_value::StepAnswer;
 use frame::Frame;
 use header::Header;
-use refusal::Checked;
+use refusal::CheckAnswer;
 use refusal::Refusal;
 ghost use mathlib.Core.Path.{_≡_};
 ghost use Rattle.refusal.specs.Answers.{checked-outcome};
@@ -19,35 +19,35 @@ ghost use Rattle.class_walk.specs.Classes.{annotationsAccepted, membersA
 ghost use Rattle.class_walk.specs.Answers.{passed-outcome};
 
 // The place after a list of methods.
-pub enum Passed {
+pub enum PassedAnswer {
     To(usize),
     Refused(Refusal),
 }
 
 // The debug information at an offset, if it is not absent.
-fn debug_below(s: &[u8], strings: u32, offset: u32) -> Checked
+fn debug_below(s: &[u8], strings: u32, offset: u32) -> CheckAnswer
     ensures { λ r. ⌜ checked-outcome r ≡ debugAccepted (now (s .entry)) strings offset ⌝ }
 {
     if offset <= 0 {
-        return Checked::Accepted;
+        return CheckAnswer::Accepted;
     }
     match debug_info::debug_at(s, strings, offset as usize) {
-        DebugAnswer::Refused(r) => Checked::Refused(r),
+        DebugAnswer::Refused(r) => CheckAnswer::Refused(r),
         DebugAnswer::Got {
             line: _,
             names: _,
             start: _,
             length: _,
-        } => Checked::Accepted,
+        } => CheckAnswer::Accepted,
     }
 }
 
 // A code item and its debug information.
-fn check_body(s: &[u8], f: Frame, item: usize) -> Checked
+fn check_body(s: &[u8], f: Frame, item: usize) -> CheckAnswer
     ensures { λ r. ⌜ checked-outcome r ≡ bodyAccepted (now (s .entry)) f item ⌝ }
 {
     match code_item::code_at(s, f, item) {
-        CodeAnswer::Refused(r) => Checked::Refused(r),
+        CodeAnswer::Refused(r) => CheckAnswer::Refused(r),
         CodeAnswer::Got(o) => {
             let head = o.head;
             debug_below(s, f.strings, head.debug)
@@ -56,20 +56,20 @@ fn check_body(s: &[u8], f: Frame, item: usize) -> Checked
 }
 
 // The body of a method, if it is not absent.
-fn method_below(s: &[u8], f: Frame, code: u32) -> Checked
+fn method_below(s: &[u8], f: Frame, code: u32) -> CheckAnswer
     ensures { λ r. ⌜ checked-outcome r ≡ methodAccepted (now (s .entry)) f code ⌝ }
 {
     if code <= 0 {
-        return Checked::Accepted;
+        return CheckAnswer::Accepted;
     }
     check_body(s, f, code as usize)
 }
 
 // A list of methods once more, with the body of each.
-fn methods_pass(s: &[u8], f: Frame, item: usize, from: usize, count: u32) -> Passed
+fn methods_pass(s: &[u8], f: Frame, item: usize, from: usize, count: u32) -> PassedAnswer
     ensures { λ r. ⌜ passed-outcome r ≡ methodsPass (now (s .entry)) f item from count ⌝ }
 {
-    let judge = Judge {
+    let judge = MemberJudge {
         limit: f.methods,
         code: true,
         start: f.start,
@@ -80,14 +80,14 @@ fn methods_pass(s: &[u8], f: Frame, item: usize, from: usize, count: u32) -> Pas
     let mut left = count;
     while 0 < left {
         match class_members::member_found(s, judge, item, last, later, p) {
-            MemberFound::Refused(r) => {
-                return Passed::Refused(r);
+            MemberFoundAnswer::Refused(r) => {
+                return PassedAnswer::Refused(r);
             }
-            MemberFound::Got { member, next } => match method_below(s, f, member.code) {
-                Checked::Refused(r) => {
-                    return Passed::Refused(r);
+            MemberFoundAnswer::Got { member, next } => match method_below(s, f, member.code) {
+                CheckAnswer::Refused(r) => {
+                    return PassedAnswer::Refused(r);
                 }
-                Checked::Accepted => {
+                CheckAnswer::Accepted => {
                     last = member.index;
                     p = next;
                 }
@@ -96,37 +96,37 @@ fn methods_pass(s: &[u8], f: Frame, item: usize, from: usize, count: u32) -> Pas
         later = true;
         left -= 1;
     }
-    Passed::To(p)
+    PassedAnswer::To(p)
 }
 
 // Direct methods, then virtual ones.
-fn both_pass(s: &[u8], f: Frame, item: usize, m: Methods) -> Checked
+fn both_pass(s: &[u8], f: Frame, item: usize, m: Methods) -> CheckAnswer
     ensures { λ r. ⌜ checked-outcome r ≡ bothPass (now (s .entry)) f item m ⌝ }
 {
     match methods_pass(s, f, item, m.from, m.directs) {
-        Passed::Refused(r) => Checked::Refused(r),
-        Passed::To(middle) => match methods_pass(s, f, item, middle, m.virtuals) {
-            Passed::Refused(r) => Checked::Refused(r),
-            Passed::To(_) => Checked::Accepted,
+        PassedAnswer::Refused(r) => CheckAnswer::Refused(r),
+        PassedAnswer::To(middle) => match methods_pass(s, f, item, middle, m.virtuals) {
+            PassedAnswer::Refused(r) => CheckAnswer::Refused(r),
+            PassedAnswer::To(_) => CheckAnswer::Accepted,
         },
     }
 }
 
 // Class data with all below it.
-pub fn check_data(s: &[u8], f: Frame, item: usize) -> Checked
+pub fn check_data(s: &[u8], f: Frame, item: usize) -> CheckAnswer
     ensures { λ r. ⌜ checked-outcome r ≡ dataAccepted (now (s .entry)) f item ⌝ }
 {
     match class_data::methods_at(s, f, item) {
-        MethodsAnswer::Refused(r) => Checked::Refused(r),
+        MethodsAnswer::Refused(r) => CheckAnswer::Refused(r),
         MethodsAnswer::Got(m) => both_pass(s, f, item, m),
     }
 }
 
-fn annotations_below(f: &[u8], h: Header, handles: u32, at: u32) -> Checked
+fn annotations_below(f: &[u8], h: Header, handles: u32, at: u32) -> CheckAnswer
     ensures { λ r. ⌜ checked-outcome r ≡ annotationsAccepted (now (f .entry)) h handles at ⌝ }
 {
     if at <= 0 {
-        return Checked::Accepted;
+        return CheckAnswer::Accepted;
     }
     annotation_walk::check_directory(
         header::section_of(f, h),
@@ -135,11 +135,11 @@ fn annotations_below(f: &[u8], h: Header, handles: u32, at: u32) -> Checked
     )
 }
 
-fn data_below(f: &[u8], h: Header, handles: u32, at: u32) -> Checked
+fn data_below(f: &[u8], h: Header, handles: u32, at: u32) -> CheckAnswer
     ensures { λ r. ⌜ checked-outcome r ≡ membersAccepted (now (f .entry)) h handles at ⌝ }
 {
     if at <= 0 {
-        return Checked::Accepted;
+        return CheckAnswer::Accepted;
     }
     check_data(
         header::section_of(f, h),
@@ -148,17 +148,17 @@ fn data_below(f: &[u8], h: Header, handles: u32, at: u32) -> Checked
     )
 }
 
-fn values_below(f: &[u8], h: Header, handles: u32, at: u32) -> Checked
+fn values_below(f: &[u8], h: Header, handles: u32, at: u32) -> CheckAnswer
     ensures { λ r. ⌜ checked-outcome r ≡ staticsAccepted (now (f .entry)) h handles at ⌝ }
 {
     if at <= 0 {
-        return Checked::Accepted;
+        return CheckAnswer::Accepted;
     }
     let place = at as usize;
     let walk = value_heads::walk_of(header::frame_of(h, handles), place);
     match encoded_value::top_array(header::section_of(f, h), walk, place) {
-        Step::Refused(r) => Checked::Refused(r),
-        Step::Next(_) => Checked::Accepted,
+        StepAnswer::Refused(r) => CheckAnswer::Refused(r),
+        StepAnswer::Next(_) => CheckAnswer::Accepted,
     }
 }
 
@@ -171,28 +171,28 @@ fn below_pass(
     directory: u32,
     members: u32,
     values: u32,
-) -> Checked
+) -> CheckAnswer
     ensures { λ r. ⌜ checked-outcome r ≡ belowPass (now (f .entry)) h handles interfaces directory members values ⌝ }
 {
     match type_list::check_types(f, h, interfaces) {
-        Checked::Refused(r) => Checked::Refused(r),
-        Checked::Accepted => match annotations_below(f, h, handles, directory) {
-            Checked::Refused(r) => Checked::Refused(r),
-            Checked::Accepted => match data_below(f, h, handles, members) {
-                Checked::Refused(r) => Checked::Refused(r),
-                Checked::Accepted => values_below(f, h, handles, values),
+        CheckAnswer::Refused(r) => CheckAnswer::Refused(r),
+        CheckAnswer::Accepted => match annotations_below(f, h, handles, directory) {
+            CheckAnswer::Refused(r) => CheckAnswer::Refused(r),
+            CheckAnswer::Accepted => match data_below(f, h, handles, members) {
+                CheckAnswer::Refused(r) => CheckAnswer::Refused(r),
+                CheckAnswer::Accepted => values_below(f, h, handles, values),
             },
         },
     }
 }
 
 // Class n with all below it.
-pub fn check_class(f: &[u8], h: Header, handles: u32, n: u32) -> Checked
+pub fn check_class(f: &[u8], h: Header, handles: u32, n: u32) -> CheckAnswer
     ensures { λ r. ⌜ checked-outcome r ≡ classAccepted (now (f .entry)) h handles n ⌝ }
 {
     let t = h.classes;
     match class_ids::class_at(f, header::frame_of(h, 0), h.end, t.offset, n) {
-        ClassAnswer::Refused(r) => Checked::Refused(r),
+        ClassAnswer::Refused(r) => CheckAnswer::Refused(r),
         ClassAnswer::Got(c) => below_pass(
             f,
             h,

@@ -22,9 +22,9 @@ use Rattle.handlers.specs.Handlers.{Handler, HandlerList}
 use Rattle.handlers.specs.Rules.{HandlersRule}
 use Rattle.handlers.proofs.Exactly.{handlers-exact, handlers-apart, handlers-lie}
 use Rattle.code_units.specs.Units.{unitsAt}
-use Rattle.code_heads.specs.declared.Head.{Head}
+use Rattle.code_heads.specs.declared.CodeHead.{CodeHead}
 use Rattle.code_heads.specs.Heads.{bodySize}
-use Rattle.code_heads.specs.Rules.{HeadRule}
+use Rattle.code_heads.specs.Rules.{CodeHeadRule}
 use Rattle.code_heads.proofs.Exactly.{head-exact}
 use Rattle.code_bodies.specs.declared.Try.{Try}
 use Rattle.code_bodies.specs.Tries.{tryAt, tryAllowed, Run, judged, stepAt, begin, triesAt, linked, isStart, linkAt, linksAt}
@@ -190,13 +190,13 @@ module _ (o : Endian) (s : List ℕ) (handlers : List Handler) where
 
 -- ---- the whole
 module _ (s : List ℕ) (f : Frame) (item : ℕ) where
-  list-exact : (h : Head) (base : ℕ) → Exact (listAt s f item h base) (λ (l : HandlerList).
+  list-exact : (h : CodeHead) (base : ℕ) → Exact (listAt s f item h base) (λ (l : HandlerList).
       ((0 < h .tries) × HandlersRule s (judge-of f item h base) l) ⊎ ((0 < h .tries → ⊥) × (record { first = base; handlers = []; end = base } ≡ l)))
   unfolding listAt
   list-exact h base = either-exact (below 0 (h .tries)) (handlers-exact s (judge-of f item h base)) (answer-exact _)
 
   -- tries, handler list and links, from a head
-  record PartsRule (h : Head) (from base : ℕ) (c : Code) : Type 0 where
+  record PartsRule (h : CodeHead) (from base : ℕ) (c : Code) : Type 0 where
     run : Run
     after-links : ℕ
     head-is : h ≡ c .head
@@ -207,7 +207,7 @@ module _ (s : List ℕ) (f : Frame) (item : ℕ) where
     from-is : from ≡ c .from
     base-is : base ≡ c .base
 
-  parts-exact : (h : Head) (from base : ℕ) → Exact (partsAt s f item h from base) (PartsRule h from base)
+  parts-exact : (h : CodeHead) (from base : ℕ) → Exact (partsAt s f item h from base) (PartsRule h from base)
   unfolding partsAt triesAt linksAt
   parts-exact h from base =
       exact-iff (bind-exact _ _ (collect-exact (stepAt (f .order) s (h .units) item) (TryStep (f .order) s (h .units)) (step-exact (f .order) s (h .units) item) (h .tries) (begin from))
@@ -236,26 +236,26 @@ module _ (s : List ℕ) (f : Frame) (item : ℕ) where
       ))
 
   -- no two handlers start at one offset, also where there is no list
-  list-apart : (h : Head) (base : ℕ) (l : HandlerList) → ((0 < h .tries) × HandlersRule s (judge-of f item h base) l) ⊎ ((0 < h .tries → ⊥) × (record { first = base; handlers = []; end = base } ≡ l)) → StartsApart (l .handlers)
+  list-apart : (h : CodeHead) (base : ℕ) (l : HandlerList) → ((0 < h .tries) × HandlersRule s (judge-of f item h base) l) ⊎ ((0 < h .tries → ⊥) × (record { first = base; handlers = []; end = base } ≡ l)) → StartsApart (l .handlers)
   list-apart h base l (inl x) = handlers-apart s (judge-of f item h base) l (x .1)
   list-apart h base l (inr x) = subst (λ (y : HandlerList). StartsApart (y .handlers)) (x .1) (λ m n a b p q e. absurd (let z = at-below p in omega arith))
 
-  body-whole : (c : Code) (h : Head) → HeadRule s f item h → item + (bodySize h + 8 * h .tries) ≤ length s → PartsRule h (item + bodySize h) (item + (bodySize h + 8 * h .tries)) c → CodeRule s f item c
+  body-whole : (c : Code) (h : CodeHead) → CodeHeadRule s f item h → item + (bodySize h + 8 * h .tries) ≤ length s → PartsRule h (item + bodySize h) (item + (bodySize h + 8 * h .tries)) c → CodeRule s f item c
   body-whole c h a room p =
       let tries : EachTry (f .order) s (h .units) (item + bodySize h) (h .tries) (c .tries) = tries-read (f .order) s (h .units) (p .tries) in
       record {
-        head = subst (HeadRule s f item) (p .head-is) a;
-        room = subst (λ (w : Head). item + (bodySize w + 8 * w .tries) ≤ length s) (p .head-is) room;
+        head = subst (CodeHeadRule s f item) (p .head-is) a;
+        room = subst (λ (w : CodeHead). item + (bodySize w + 8 * w .tries) ≤ length s) (p .head-is) room;
         tries = subst (λ (w : ℕ). EachTry (f .order) s (c .head .units) w (c .head .tries) (c .tries)) (p .from-is)
-            (subst (λ (w : Head). EachTry (f .order) s (w .units) (item + bodySize h) (w .tries) (c .tries)) (p .head-is) tries);
+            (subst (λ (w : CodeHead). EachTry (f .order) s (w .units) (item + bodySize h) (w .tries) (c .tries)) (p .head-is) tries);
         in-order = tries-rise (f .order) s (h .units) (p .tries);
         handlers = subst (λ (w : ℕ). ((0 < c .head .tries) × HandlersRule s (judge-of f item (c .head) w) (c .handlers)) ⊎ ((0 < c .head .tries → ⊥) × (record { first = w; handlers = []; end = w } ≡ c .handlers))) (p .base-is)
-            (subst (λ (w : Head). ((0 < w .tries) × HandlersRule s (judge-of f item w (item + (bodySize h + 8 * h .tries))) (c .handlers))
+            (subst (λ (w : CodeHead). ((0 < w .tries) × HandlersRule s (judge-of f item w (item + (bodySize h + 8 * h .tries))) (c .handlers))
             ⊎ ((0 < w .tries → ⊥) × (record { first = item + (bodySize h + 8 * h .tries); handlers = []; end = item + (bodySize h + 8 * h .tries) } ≡ c .handlers))) (p .head-is) (p .handlers));
         links = links-alike (f .order) s (c .handlers .handlers) (item + bodySize h) tries (p .links);
-        units = subst (λ (w : Head). unitsAt (f .order) s (item + 16) (w .units) ≡ c .units) (p .head-is) (p .units);
-        from = subst (λ (w : Head). item + bodySize w ≡ c .from) (p .head-is) (p .from-is);
-        base = subst (λ (w : Head). item + (bodySize w + 8 * w .tries) ≡ c .base) (p .head-is) (p .base-is);
+        units = subst (λ (w : CodeHead). unitsAt (f .order) s (item + 16) (w .units) ≡ c .units) (p .head-is) (p .units);
+        from = subst (λ (w : CodeHead). item + bodySize w ≡ c .from) (p .head-is) (p .from-is);
+        base = subst (λ (w : CodeHead). item + (bodySize w + 8 * w .tries) ≡ c .base) (p .head-is) (p .base-is);
       }
 
   body-back : (c : Code) → CodeRule s f item c → PartsRule (c .head) (item + bodySize (c .head)) (item + (bodySize (c .head) + 8 * c .head .tries)) c

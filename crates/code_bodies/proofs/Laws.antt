@@ -16,15 +16,15 @@ use Rattle.refusal.proofs.Laws.{tests, bind-answer, bind-refused, passes, fails
 use Rattle.refusal.proofs.Choose.{Choosing, choosing-first, choosing-next, choosing-stop, choosing-done}
 use Rattle.word.specs.Words.{u16At, u32At}
 use Rattle.word.specs.declared.Endian.{Endian}
-use Rattle.handlers.specs.declared.Judge.{Judge}
+use Rattle.handlers.specs.declared.HandlerJudge.{HandlerJudge}
 use Rattle.handlers.specs.declared.Brief.{Brief}
-use Rattle.handlers.specs.declared.BriefFound.{BriefFound}
-use Rattle.handlers.specs.declared.BriefFound.the-variants as B
+use Rattle.handlers.specs.declared.BriefAnswer.{BriefAnswer}
+use Rattle.handlers.specs.declared.BriefAnswer.the-variants as B
 use Rattle.handlers.specs.Answers.{brief-outcome}
 use Rattle.handlers.specs.Handlers as H
 use Rattle.handlers.proofs.Laws.{behind, unread}
 use Rattle.code_bodies.specs.declared.Try.{Try}
-use Rattle.code_bodies.specs.Tries.{tryAt, tryAllowed, judged, stepAt, begin, isStart, no-try, item-alone, keptTry, startAt, walkAt, keptLink}
+use Rattle.code_bodies.specs.Tries.{tryAt, tryAllowed, judged, stepAt, begin, isStart, no-try, item-alone, keptTry, linkFrom, walkAt, keptLink}
 
 -- ---- the loop of `tries_found` at its head
 pub record Trying (o : Endian) (s : List ℕ) (units item from count k left place floor i : ℕ) (keep : Try) : Type 0 where
@@ -66,23 +66,23 @@ module _ (units floor : ℕ) (t : Try) where
   try-room h = rw (le-leb floor (t .start) h)
 
 -- ---- the loops of `links_at` at their heads
-pub record Linking (o : Endian) (s : List ℕ) (j : Judge) (first handlers from count k left place i keep : ℕ) : Type 0 where
+pub record Linking (o : Endian) (s : List ℕ) (j : HandlerJudge) (first handlers from count k left place i keep : ℕ) : Type 0 where
   choosing : Choosing (walkAt o s j first handlers) count from 0 k left place i keep
   pub sum : i + left ≡ count
   pub room : place + 8 * left ≤ length s
 
 -- among the handlers: the search for a start is the search from here
-pub record Starting (o : Endian) (s : List ℕ) (j : Judge) (first handlers from count k left place i keep want p number unseen : ℕ) : Type 0 where
+pub record Starting (o : Endian) (s : List ℕ) (j : HandlerJudge) (first handlers from count k left place i keep want p number unseen : ℕ) : Type 0 where
   pub linking : Linking o s j first handlers from count k left place i keep
   pub some-left : 0 < left
   is : want ≡ u16At o s (place + 6)
-  same : startAt s j (u16At o s (place + 6)) handlers first 0 ≡ startAt s j (u16At o s (place + 6)) unseen p number
+  same : linkFrom s j (u16At o s (place + 6)) handlers first 0 ≡ linkFrom s j (u16At o s (place + 6)) unseen p number
   pub seen : number + unseen ≡ handlers
 
-pub linking-first : (o : Endian) (s : List ℕ) (j : Judge) (first handlers from count k : ℕ) → from + 8 * count ≤ length s → Linking o s j first handlers from count k count from 0 0
+pub linking-first : (o : Endian) (s : List ℕ) (j : HandlerJudge) (first handlers from count k : ℕ) → from + 8 * count ≤ length s → Linking o s j first handlers from count k count from 0 0
 linking-first o s j first handlers from count k h = record { choosing = choosing-first (walkAt o s j first handlers) count from 0 k; sum = omega arith; room = h }
 
-module _ {o : Endian} {s : List ℕ} {j : Judge} {first handlers from count k left place i keep : ℕ} (h : Linking o s j first handlers from count k left place i keep) where
+module _ {o : Endian} {s : List ℕ} {j : HandlerJudge} {first handlers from count k left place i keep : ℕ} (h : Linking o s j first handlers from count k left place i keep) where
   pub starting-first : {want : ℕ} → 0 < left → want ≡ u16At o s (place + 6) → Starting o s j first handlers from count k left place i keep want first 0 handlers
   starting-first l e = record { linking = h; some-left = l; is = e; same = refl; seen = omega arith }
 
@@ -90,29 +90,29 @@ module _ {o : Endian} {s : List ℕ} {j : Judge} {first handlers from count k le
   unfolding keptLink
   linking-done l = sym (bind-answer item-alone (sym (choosing-done (h .choosing) l)))
 
-module _ {o : Endian} {s : List ℕ} {j : Judge} {first handlers from count k left place i keep want p number unseen : ℕ}
+module _ {o : Endian} {s : List ℕ} {j : HandlerJudge} {first handlers from count k left place i keep want p number unseen : ℕ}
     (h : Starting o s j first handlers from count k left place i keep want p number unseen) where
-  start-more : (left : ℕ) → 0 < left → startAt s j (u16At o s (place + 6)) left p number
-      ≡ (H.handlerAt s j p >>= λ (a : Found H.Handler ℕ). cond (isStart (u16At o s (place + 6)) (a .item)) (answer number) (startAt s j (u16At o s (place + 6)) (left - 1) (a .next) (number + 1)))
-  unfolding startAt
+  start-more : (left : ℕ) → 0 < left → linkFrom s j (u16At o s (place + 6)) left p number
+      ≡ (H.handlerAt s j p >>= λ (a : Found H.Handler ℕ). cond (isStart (u16At o s (place + 6)) (a .item)) (answer number) (linkFrom s j (u16At o s (place + 6)) (left - 1) (a .next) (number + 1)))
+  unfolding linkFrom
   start-more zero q = absurd (omega arith)
   start-more (suc n) q =
       let back : suc n - 1 ≡ n = omega arith in
       rw back
 
-  stopped : {r : Refusal} → startAt s j (u16At o s (place + 6)) unseen p number ≡ refused r → refused r ≡ keptLink o s j first handlers from count k
+  stopped : {r : Refusal} → linkFrom s j (u16At o s (place + 6)) unseen p number ≡ refused r → refused r ≡ keptLink o s j first handlers from count k
   unfolding keptLink walkAt
   stopped e = sym (bind-refused item-alone (sym (choosing-stop (h .linking .choosing) (h .some-left) (sym (bind-refused _ (h .same ∙ e))))))
 
   pub starting-none : unseen ≤ 0 → refused (record { number = 17; place = j .item }) ≡ keptLink o s j first handlers from count k
-  unfolding startAt
+  unfolding linkFrom
   starting-none q = stopped (go unseen q)
     where
-      go : (n : ℕ) → n ≤ 0 → startAt s j (u16At o s (place + 6)) n p number ≡ refused (record { number = 17; place = j .item })
+      go : (n : ℕ) → n ≤ 0 → linkFrom s j (u16At o s (place + 6)) n p number ≡ refused (record { number = 17; place = j .item })
       go zero q = refl
       go (suc n) q = absurd (omega arith)
 
-  module _ (q : 0 < unseen) {x : BriefFound} (e : brief-outcome x ≡ H.keptHandler s j 0 p) where
+  module _ (q : 0 < unseen) {x : BriefAnswer} (e : brief-outcome x ≡ H.keptHandler s j 0 p) where
     pub starting-stop : {r : Refusal} → x ≡ B.Refused r → refused r ≡ keptLink o s j first handlers from count k
     starting-stop t = stopped (start-more unseen q ∙ bind-refused _ (sym (unread s j 0 p (sym (ap brief-outcome t) ∙ e))))
 
@@ -144,7 +144,7 @@ module _ {o : Endian} {s : List ℕ} {j : Judge} {first handlers from count k le
             room = let z = h .linking .room in omega arith;
           }
 
-pub linking-room : {o : Endian} {s : List ℕ} {j : Judge} {first handlers from count k left place i keep : ℕ} → Linking o s j first handlers from count k left place i keep → 0 < left → place + 8 ≤ length s
+pub linking-room : {o : Endian} {s : List ℕ} {j : HandlerJudge} {first handlers from count k left place i keep : ℕ} → Linking o s j first handlers from count k left place i keep → 0 < left → place + 8 ≤ length s
 linking-room h l = let z = h .room in omega arith
 
 pub ruleset try-laws = (trying-first, trying-room, trying-next, trying-stop, trying-done, try-low, try-room, tests, needs)

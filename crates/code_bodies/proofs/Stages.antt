@@ -21,22 +21,22 @@ use Rattle.refusal.proofs.Choose.{chosen-by, row-length}
 use Rattle.word.specs.Words.{u16At}
 use Rattle.word.specs.declared.Endian.{Endian}
 use Rattle.frame.specs.declared.Frame.{Frame}
-use Rattle.handlers.specs.declared.Judge.{Judge}
+use Rattle.handlers.specs.declared.HandlerJudge.{HandlerJudge}
 use Rattle.handlers.specs.Handlers as H
 use Rattle.handlers.specs.Rules.{HandlerRule}
 use Rattle.handlers.proofs.Exactly.{handler-exact, handlers-exact}
 use Rattle.handlers.proofs.Laws.{on-list}
 use Rattle.code_units.specs.Units.{unitsAt}
-use Rattle.code_heads.specs.declared.Head.{Head}
-use Rattle.code_heads.specs.Heads.{headAt, bodySize}
+use Rattle.code_heads.specs.declared.CodeHead.{CodeHead}
+use Rattle.code_heads.specs.Heads.{codeHeadAt, bodySize}
 use Rattle.code_heads.proofs.Laws.{on-head}
 use Rattle.code_bodies.specs.declared.Try.{Try}
-use Rattle.code_bodies.specs.declared.TryFound.{TryFound}
-use Rattle.code_bodies.specs.declared.Number.{Number}
-use Rattle.code_bodies.specs.declared.KeptAnswer.{KeptAnswer}
-use Rattle.code_bodies.specs.Tries.{Run, stepAt, begin, triesAt, linked, isStart, linkAt, linksAt, no-try, item-alone, keptTry, startAt, walkAt, keptLink}
-use Rattle.code_bodies.specs.Code.{judge-of, listAt, Code, partsAt, bodyAt, codeAt, Kept, kept, keptAt, linkedStage, listedStage, partsStage, bodyStage}
-use Rattle.code_bodies.specs.Answers.{try-found, number-outcome, kept-outcome}
+use Rattle.code_bodies.specs.declared.TryFoundAnswer.{TryFoundAnswer}
+use Rattle.code_bodies.specs.declared.LinkAnswer.{LinkAnswer}
+use Rattle.code_bodies.specs.declared.KeptCodeAnswer.{KeptCodeAnswer}
+use Rattle.code_bodies.specs.Tries.{Run, stepAt, begin, triesAt, linked, isStart, linkAt, linksAt, no-try, item-alone, keptTry, linkFrom, walkAt, keptLink}
+use Rattle.code_bodies.specs.Code.{judge-of, listAt, Code, partsAt, bodyAt, codeAt, KeptCode, kept, keptCodeAt, linkedStage, listedStage, partsStage, bodyStage}
+use Rattle.code_bodies.specs.Answers.{try-found, link-outcome, kept-code-outcome}
 
 -- what follows a test that holds, under what comes after
 guarded : {A B : Type 0} (n p : ℕ) (t : Bool) (o : Outcome A) (f : A → Outcome B) {q : Outcome B} → (o >>= f) ≡ q → (given t n p o >>= f) ≡ given t n p q
@@ -49,12 +49,12 @@ abbrev pub from-number : ℕ → Option ℕ → Option ℕ
 from-number n none = none
 from-number n (some k) = some (n + k)
 
-module _ (s : List ℕ) (j : Judge) (want : ℕ) where
+module _ (s : List ℕ) (j : HandlerJudge) (want : ℕ) where
   abbrev Reads : ℕ → H.Handler → ℕ → Type 0
   Reads p a q = H.handlerAt s j p ≡ answer (record { item = a; next = q })
 
-  start-list : {m p u : ℕ} {l : List H.Handler} (n : ℕ) → Row Reads m p l u → startAt s j want m p n ≡ linked (j .item) (from-number n (position (isStart want) l))
-  unfolding startAt linked position
+  start-list : {m p u : ℕ} {l : List H.Handler} (n : ℕ) → Row Reads m p l u → linkFrom s j want m p n ≡ linked (j .item) (from-number n (position (isStart want) l))
+  unfolding linkFrom linked position
   start-list n empty = refl
   start-list n (first {a = a} {l = l} {t = t} h r) = bind-answer _ h ∙ go (isStart want a) (position (isStart want) l) (start-list (n + 1) r)
     where
@@ -63,14 +63,14 @@ module _ (s : List ℕ) (j : Judge) (want : ℕ) where
       go false none e = e
       go false (some k) e = let z : n + 1 + k ≡ n + suc k = omega arith in e ∙ ap answer z
 
-  start-zero : {m p u : ℕ} {l : List H.Handler} → Row Reads m p l u → startAt s j want m p 0 ≡ linked (j .item) (position (isStart want) l)
+  start-zero : {m p u : ℕ} {l : List H.Handler} → Row Reads m p l u → linkFrom s j want m p 0 ≡ linked (j .item) (position (isStart want) l)
   start-zero {l = l} r = start-list 0 r ∙ ap (linked (j .item)) (go (position (isStart want) l))
     where
       go : (o : Option ℕ) → from-number 0 o ≡ o
       go none = refl
       go (some k) = let z : 0 + k ≡ k = omega arith in ap some z
 
-module _ (s : List ℕ) (j : Judge) where
+module _ (s : List ℕ) (j : HandlerJudge) where
   reads-row : {m p u : ℕ} {l : List H.Handler} → Row (HandlerRule s j) m p l u → Row (λ (p : ℕ) (a : H.Handler) (q : ℕ). H.handlerAt s j p ≡ answer (record { item = a; next = q })) m p l u
   reads-row empty = empty
   reads-row (first {s = p} h r) = first (handler-exact s j p .complete _ h) (reads-row r)
@@ -82,7 +82,7 @@ module _ (s : List ℕ) (j : Judge) where
       let rule = handlers-exact s j .sound l e in
       let long = row-length (rule .handlers) in
       let row = reads-row (rule .handlers) in
-      λ i. (sym (start-zero s j (u16At o s (p + 6)) row) ∙ ap (λ (m : ℕ). startAt s j (u16At o s (p + 6)) m (l .first) 0) (sym long)) i >>= λ (n : ℕ). answer (record { item = n; next = p + 8 })
+      λ i. (sym (start-zero s j (u16At o s (p + 6)) row) ∙ ap (λ (m : ℕ). linkFrom s j (u16At o s (p + 6)) m (l .first) 0) (sym long)) i >>= λ (n : ℕ). answer (record { item = n; next = p + 8 })
 
 -- ---- one try is kept, one link is kept
 module _ {B : Type 0} (o : Endian) (s : List ℕ) where
@@ -93,7 +93,7 @@ module _ {B : Type 0} (o : Endian) (s : List ℕ) where
       chosen-by n (stepAt o s units item) no-try k (begin from) f (λ (r : Found Try Run). item-alone r >>= g) (λ r size. h r ∙ sym (bind-answer g refl))
       ∙ sym (bind-assoc (choose n (stepAt o s units item) no-try k (begin from)) item-alone g)
 
-  links-by : (j : Judge) (l : H.HandlerList) (from n k : ℕ) (f : Found (List ℕ) ℕ → Outcome B) (g : ℕ → Outcome B) → H.handlersAt s j ≡ answer l → ((r : Found (List ℕ) ℕ) → f r ≡ g (getD (r .item) k 0))
+  links-by : (j : HandlerJudge) (l : H.HandlerList) (from n k : ℕ) (f : Found (List ℕ) ℕ → Outcome B) (g : ℕ → Outcome B) → H.handlersAt s j ≡ answer l → ((r : Found (List ℕ) ℕ) → f r ≡ g (getD (r .item) k 0))
       → (linksAt o s (l .handlers) (j .item) from n >>= f) ≡ (keptLink o s j (l .first) (length (l .handlers)) from n k >>= g)
   unfolding linksAt keptLink
   links-by j l from n k f g e h =
@@ -102,7 +102,7 @@ module _ {B : Type 0} (o : Endian) (s : List ℕ) where
       ∙ sym (bind-assoc (choose n (walkAt o s j (l .first) (length (l .handlers))) 0 k from) item-alone g)
 
 -- ---- the parts
-module _ (s : List ℕ) (f : Frame) (item : ℕ) (head : Head) (from base t h k : ℕ) where
+module _ (s : List ℕ) (f : Frame) (item : ℕ) (head : CodeHead) (from base t h k : ℕ) where
   abbrev whole : List Try → H.HandlerList → List ℕ → Code
   whole ts l ns = record { head = head; units = unitsAt (f .order) s (item + 16) (head .units); tries = ts; handlers = l; links = ns; from = from; base = base }
 
@@ -110,15 +110,15 @@ module _ (s : List ℕ) (f : Frame) (item : ℕ) (head : Head) (from base t h k 
   last-part ts l = linksAt (f .order) s (l .handlers) item from (head .tries) >>= λ (n : Found (List ℕ) ℕ). answer (whole ts l (n .item))
 
   with-tries : (ts : List Try) → ((H.handlersAt s (judge-of f item head base) >>= last-part ts) >>= kept t h k) ≡ linkedStage s (f .order) (judge-of f item head base) head (getD ts t no-try) from t h k
-  unfolding linkedStage H.keptAt
+  unfolding linkedStage H.keptHandlersAt
   with-tries ts =
       go (H.handlersAt s (judge-of f item head base)) refl
     where
-      j : Judge
+      j : HandlerJudge
       j = judge-of f item head base
 
       go : (o : Outcome H.HandlerList) → H.handlersAt s (judge-of f item head base) ≡ o → ((o >>= last-part ts) >>= kept t h k)
-          ≡ ((o >>= λ (l : H.HandlerList). answer (record { count = length (l .handlers); brief = H.brief k (getD (l .handlers) h H.nobody); first = l .first; end = l .end })) >>= λ (l : H.Kept).
+          ≡ ((o >>= λ (l : H.HandlerList). answer (record { count = length (l .handlers); brief = H.brief k (getD (l .handlers) h H.nobody); first = l .first; end = l .end })) >>= λ (l : H.KeptHandlers).
           keptLink (f .order) s (judge-of f item head base) (l .first) (l .count) from (head .tries) t >>= λ (n : ℕ).
           answer (record { head = head; attempt = getD ts t no-try; link = n; handlers = l .count; brief = l .brief; from = from; base = base; end = l .end }))
       go (answer l) e =
@@ -150,18 +150,18 @@ module _ (s : List ℕ) (f : Frame) (item : ℕ) (head : Head) (from base t h k 
 
 -- ---- the whole
 module _ (s : List ℕ) (f : Frame) (item : ℕ) where
-  kept-whole : (t h k : ℕ) → keptAt s f item t h k ≡ (headAt s f item >>= λ (head : Head). bodyStage s f item head t h k)
-  unfolding keptAt codeAt bodyAt bodyStage
+  kept-whole : (t h k : ℕ) → keptCodeAt s f item t h k ≡ (codeHeadAt s f item >>= λ (head : CodeHead). bodyStage s f item head t h k)
+  unfolding keptCodeAt codeAt bodyAt bodyStage
   kept-whole t h k =
-      bind-assoc (headAt s f item) (bodyAt s f item) (kept t h k)
-      ∙ λ i. headAt s f item >>= λ (head : Head).
+      bind-assoc (codeHeadAt s f item) (bodyAt s f item) (kept t h k)
+      ∙ λ i. codeHeadAt s f item >>= λ (head : CodeHead).
       guarded 9 item (leb (item + (bodySize head + 8 * head .tries)) (length s)) _ (kept t h k) (parts-whole s f item head (item + bodySize head) (item + (bodySize head + 8 * head .tries)) t h k) i
 
-  pub kept-by : (t h k : ℕ) {y : Outcome Kept} → y ≡ (headAt s f item >>= λ (head : Head). bodyStage s f item head t h k) → y ≡ keptAt s f item t h k
+  pub kept-by : (t h k : ℕ) {y : Outcome KeptCode} → y ≡ (codeHeadAt s f item >>= λ (head : CodeHead). bodyStage s f item head t h k) → y ≡ keptCodeAt s f item t h k
   kept-by t h k e = e ∙ sym (kept-whole t h k)
 
 -- ---- what follows the head
-module _ (s : List ℕ) (f : Frame) (item : ℕ) (head : Head) (t h k : ℕ) where
+module _ (s : List ℕ) (f : Frame) (item : ℕ) (head : CodeHead) (t h k : ℕ) where
   too-long : length s < item + (bodySize head + 8 * head .tries) → refused (record { number = 9; place = item }) ≡ bodyStage s f item head t h k
   unfolding bodyStage
   too-long p = fails _ (lt-leb (item + (bodySize head + 8 * head .tries)) (length s) p)
@@ -177,7 +177,7 @@ module _ (s : List ℕ) (f : Frame) (item : ℕ) (head : Head) (t h k : ℕ) whe
       pub body-long : length s - item - body < 8 * head .tries → refused (record { number = 9; place = item }) ≡ bodyStage s f item head t h k
       body-long r = too-long (omega arith)
 
-      pub body-by : {y : Outcome Kept} → 8 * head .tries ≤ length s - item - body
+      pub body-by : {y : Outcome KeptCode} → 8 * head .tries ≤ length s - item - body
           → y ≡ partsStage s (f .order) (record { types = f .types; units = head .units; item = item; base = item + body + 8 * head .tries }) head (item + body) t h k → y ≡ bodyStage s f item head t h k
       unfolding bodyStage
       body-by r g =
@@ -186,14 +186,14 @@ module _ (s : List ℕ) (f : Frame) (item : ℕ) (head : Head) (t h k : ℕ) whe
           ∙ passes 9 item (le-leb (item + (bodySize head + 8 * head .tries)) (length s) (omega arith)) refl
 
 -- ---- calls, by the arm that was taken
-pub on-try : {B : Type 0} {x c : TryFound} {o : Outcome Try} {y : Outcome B} (k : Try → Outcome B) → try-found x ≡ o → x ≡ c → y ≡ (try-found c >>= k) → y ≡ (o >>= k)
+pub on-try : {B : Type 0} {x c : TryFoundAnswer} {o : Outcome Try} {y : Outcome B} (k : Try → Outcome B) → try-found x ≡ o → x ≡ c → y ≡ (try-found c >>= k) → y ≡ (o >>= k)
 on-try = said try-found
 
-pub on-number : {B : Type 0} {x c : Number} {o : Outcome ℕ} {y : Outcome B} (k : ℕ → Outcome B) → number-outcome x ≡ o → x ≡ c → y ≡ (number-outcome c >>= k) → y ≡ (o >>= k)
-on-number = said number-outcome
+pub on-number : {B : Type 0} {x c : LinkAnswer} {o : Outcome ℕ} {y : Outcome B} (k : ℕ → Outcome B) → link-outcome x ≡ o → x ≡ c → y ≡ (link-outcome c >>= k) → y ≡ (o >>= k)
+on-number = said link-outcome
 
-pub on-kept : {B : Type 0} {x c : KeptAnswer} {o : Outcome Kept} {y : Outcome B} (k : Kept → Outcome B) → kept-outcome x ≡ o → x ≡ c → y ≡ (kept-outcome c >>= k) → y ≡ (o >>= k)
-on-kept = said kept-outcome
+pub on-kept : {B : Type 0} {x c : KeptCodeAnswer} {o : Outcome KeptCode} {y : Outcome B} (k : KeptCode → Outcome B) → kept-code-outcome x ≡ o → x ≡ c → y ≡ (kept-code-outcome c >>= k) → y ≡ (o >>= k)
+on-kept = said kept-code-outcome
 
 -- ---- what this crate's functions are searched with
 pub ruleset stage-laws = (on-head, on-try, on-number, on-list, kept-by, calls, tests, needs)

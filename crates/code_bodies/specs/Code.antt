@@ -7,25 +7,25 @@ use lib.Dec.{ltb, leb}
 use Rattle.refusal.specs.Outcome.{Outcome, answer, _>>=_, given}
 use Rattle.word.specs.declared.Endian.{Endian}
 use Rattle.frame.specs.declared.Frame.{Frame}
-use Rattle.handlers.specs.declared.Judge.{Judge}
+use Rattle.handlers.specs.declared.HandlerJudge.{HandlerJudge}
 use Rattle.handlers.specs.declared.Brief.{Brief}
 use Rattle.handlers.specs.Handlers as H
 use Rattle.code_units.specs.Units.{unitsAt}
-use Rattle.code_heads.specs.declared.Head.{Head}
-use Rattle.code_heads.specs.Heads.{headAt, bodySize}
+use Rattle.code_heads.specs.declared.CodeHead.{CodeHead}
+use Rattle.code_heads.specs.Heads.{codeHeadAt, bodySize}
 use Rattle.code_bodies.specs.declared.Try.{Try}
 use Rattle.code_bodies.specs.Tries.{triesAt, linksAt, no-try, keptTry, keptLink}
 
-abbrev pub judge-of : Frame → ℕ → Head → ℕ → Judge
+abbrev pub judge-of : Frame → ℕ → CodeHead → ℕ → HandlerJudge
 judge-of f item h base = record { types = f .types; units = h .units; item = item; base = base }
 
 -- "Without tries there is no handler list."
-unfoldable pub listAt : List ℕ → Frame → ℕ → Head → ℕ → Outcome H.HandlerList
+unfoldable pub listAt : List ℕ → Frame → ℕ → CodeHead → ℕ → Outcome H.HandlerList
 listAt s f item h base = cond (ltb 0 (h .tries)) (H.handlersAt s (judge-of f item h base)) (answer (record { first = base; handlers = []; end = base }))
 
 -- what the bytes say
 pub record Code : Type 0 where
-  pub head : Head
+  pub head : CodeHead
   pub units : List ℕ
   pub tries : List Try
   pub handlers : H.HandlerList
@@ -34,7 +34,7 @@ pub record Code : Type 0 where
   pub base : ℕ
 
 -- tries, handler list, and then the tries' handler offsets
-unfoldable pub partsAt : List ℕ → Frame → ℕ → Head → ℕ → ℕ → Outcome Code
+unfoldable pub partsAt : List ℕ → Frame → ℕ → CodeHead → ℕ → ℕ → Outcome Code
 partsAt s f item h from base = do
   t ← triesAt (f .order) s (h .units) item from (h .tries)
   l ← listAt s f item h base
@@ -42,17 +42,17 @@ partsAt s f item h from base = do
   answer (record { head = h; units = unitsAt (f .order) s (item + 16) (h .units); tries = t .item; handlers = l; links = n .item; from = from; base = base })
 
 -- units, padding and tries are 9 where they run past the end
-unfoldable pub bodyAt : List ℕ → Frame → ℕ → Head → Outcome Code
+unfoldable pub bodyAt : List ℕ → Frame → ℕ → CodeHead → Outcome Code
 bodyAt s f item h =
     given (leb (item + (bodySize h + 8 * h .tries)) (length s)) 9 item
     (partsAt s f item h (item + bodySize h) (item + (bodySize h + 8 * h .tries)))
 
 unfoldable pub codeAt : List ℕ → Frame → ℕ → Outcome Code
-codeAt s f item = headAt s f item >>= bodyAt s f item
+codeAt s f item = codeHeadAt s f item >>= bodyAt s f item
 
 -- ---- stages of the code, which keeps try t with its link, and pair k of handler h
-pub record Kept : Type 0 where
-  pub head : Head
+pub record KeptCode : Type 0 where
+  pub head : CodeHead
   pub attempt : Try
   pub link : ℕ
   pub handlers : ℕ
@@ -61,7 +61,7 @@ pub record Kept : Type 0 where
   pub base : ℕ
   pub end : ℕ
 
-abbrev pub kept : ℕ → ℕ → ℕ → Code → Outcome Kept
+abbrev pub kept : ℕ → ℕ → ℕ → Code → Outcome KeptCode
 kept t h k c = answer (record {
   head = c .head;
   attempt = getD (c .tries) t no-try;
@@ -73,27 +73,27 @@ kept t h k c = answer (record {
   end = c .handlers .end;
 })
 
-unfoldable pub keptAt : List ℕ → Frame → ℕ → ℕ → ℕ → ℕ → Outcome Kept
-keptAt s f item t h k = codeAt s f item >>= kept t h k
+unfoldable pub keptCodeAt : List ℕ → Frame → ℕ → ℕ → ℕ → ℕ → Outcome KeptCode
+keptCodeAt s f item t h k = codeAt s f item >>= kept t h k
 
 -- with tries
-unfoldable pub linkedStage : List ℕ → Endian → Judge → Head → Try → ℕ → ℕ → ℕ → ℕ → Outcome Kept
+unfoldable pub linkedStage : List ℕ → Endian → HandlerJudge → CodeHead → Try → ℕ → ℕ → ℕ → ℕ → Outcome KeptCode
 linkedStage s o j head attempt from t h k = do
-  l ← H.keptAt s j h k
+  l ← H.keptHandlersAt s j h k
   n ← keptLink o s j (l .first) (l .count) from (head .tries) t
   answer (record { head = head; attempt = attempt; link = n; handlers = l .count; brief = l .brief; from = from; base = j .base; end = l .end })
 
-unfoldable pub listedStage : List ℕ → Endian → Judge → Head → Try → ℕ → ℕ → ℕ → ℕ → Outcome Kept
+unfoldable pub listedStage : List ℕ → Endian → HandlerJudge → CodeHead → Try → ℕ → ℕ → ℕ → ℕ → Outcome KeptCode
 listedStage s o j head attempt from t h k =
     cond (ltb 0 (head .tries)) (linkedStage s o j head attempt from t h k)
     (answer (record { head = head; attempt = attempt; link = 0; handlers = 0; brief = H.brief k H.nobody; from = from; base = j .base; end = j .base }))
 
-unfoldable pub partsStage : List ℕ → Endian → Judge → Head → ℕ → ℕ → ℕ → ℕ → Outcome Kept
+unfoldable pub partsStage : List ℕ → Endian → HandlerJudge → CodeHead → ℕ → ℕ → ℕ → ℕ → Outcome KeptCode
 partsStage s o j head from t h k = do
   a ← keptTry o s (head .units) (j .item) from (head .tries) t
   listedStage s o j head a from t h k
 
-unfoldable pub bodyStage : List ℕ → Frame → ℕ → Head → ℕ → ℕ → ℕ → Outcome Kept
+unfoldable pub bodyStage : List ℕ → Frame → ℕ → CodeHead → ℕ → ℕ → ℕ → Outcome KeptCode
 bodyStage s f item head t h k =
     given (leb (item + (bodySize head + 8 * head .tries)) (length s)) 9 item
     (partsStage s (f .order) (judge-of f item head (item + (bodySize head + 8 * head .tries))) head (item + bodySize head) t h k)

@@ -12,7 +12,7 @@ use Rattle.handlers.specs.Handlers.{Handler}
 use Rattle.handlers.specs.Rules.{HandlersRule}
 use Rattle.code_units.specs.Units.{unitsAt}
 use Rattle.code_heads.specs.Heads.{bodySize}
-use Rattle.code_heads.specs.Rules.{HeadRule}
+use Rattle.code_heads.specs.Rules.{CodeHeadRule}
 use Rattle.code_bodies.specs.declared.Try.{Try}
 use Rattle.code_bodies.specs.Code.{judge-of, Code}
 
@@ -34,7 +34,7 @@ pub record LinkRule (handlers : List Handler) (t : Try) (n : ℕ) : Type 0 where
   pub starts : handler .offset ≡ t .handler
 
 pub record CodeRule (s : List ℕ) (f : Frame) (item : ℕ) (c : Code) : Type 0 where
-  pub head : HeadRule s f item (c .head)
+  pub head : CodeHeadRule s f item (c .head)
   pub room : item + (bodySize (c .head) + 8 * c .head .tries) ≤ length s
   -- as many tries as the head says, eight bytes each, in order
   pub tries : Each (λ (k : ℕ) (t : Try). TryRule (f .order) s (c .head .units) (c .from + 8 * k) t) (c .head .tries) (c .tries)

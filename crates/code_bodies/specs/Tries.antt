@@ -10,7 +10,7 @@ use Rattle.refusal.specs.Choose.{choose}
 use Rattle.refusal.specs.Seek.{position}
 use Rattle.word.specs.Words.{u16At, u32At}
 use Rattle.word.specs.declared.Endian.{Endian}
-use Rattle.handlers.specs.declared.Judge.{Judge}
+use Rattle.handlers.specs.declared.HandlerJudge.{HandlerJudge}
 use Rattle.handlers.specs.Handlers.{Handler, handlerAt}
 use Rattle.code_bodies.specs.declared.Try.{Try}
 
@@ -65,14 +65,14 @@ unfoldable pub keptTry : Endian → List ℕ → ℕ → ℕ → ℕ → ℕ →
 keptTry o s units item from count k = choose count (stepAt o s units item) no-try k (begin from) >>= item-alone
 
 -- the handlers are gone over again: `left` of them from p on, the first being number n
-unfoldable pub startAt : List ℕ → Judge → ℕ → ℕ → ℕ → ℕ → Outcome ℕ
-startAt s j want zero p n = refused (record { number = 17; place = j .item })
-startAt s j want (suc left) p n = handlerAt s j p >>= λ h. cond (isStart want (h .item)) (answer n) (startAt s j want left (h .next) (n + 1))
+unfoldable pub linkFrom : List ℕ → HandlerJudge → ℕ → ℕ → ℕ → ℕ → Outcome ℕ
+linkFrom s j want zero p n = refused (record { number = 17; place = j .item })
+linkFrom s j want (suc left) p n = handlerAt s j p >>= λ h. cond (isStart want (h .item)) (answer n) (linkFrom s j want left (h .next) (n + 1))
 
-unfoldable pub walkAt : Endian → List ℕ → Judge → ℕ → ℕ → ℕ → Outcome (Found ℕ ℕ)
+unfoldable pub walkAt : Endian → List ℕ → HandlerJudge → ℕ → ℕ → ℕ → Outcome (Found ℕ ℕ)
 walkAt o s j first handlers p = do
-  n ← startAt s j (u16At o s (p + 6)) handlers first 0
+  n ← linkFrom s j (u16At o s (p + 6)) handlers first 0
   answer (record { item = n; next = p + 8 })
 
-unfoldable pub keptLink : Endian → List ℕ → Judge → ℕ → ℕ → ℕ → ℕ → ℕ → Outcome ℕ
+unfoldable pub keptLink : Endian → List ℕ → HandlerJudge → ℕ → ℕ → ℕ → ℕ → ℕ → Outcome ℕ
 keptLink o s j first handlers from count k = choose count (walkAt o s j first handlers) 0 k from >>= item-alone

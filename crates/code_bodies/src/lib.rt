@@ -1,12 +1,12 @@
 // A code item whole: its units, tries, handler list and links, of which one try, one handler and one pair are kept.
 // `s` ends where the data section ends, `item` is the place of the code item.
-use code_heads::Head;
-use code_heads::HeadAnswer;
+use code_heads::CodeHead;
+use code_heads::CodeHeadAnswer;
 use frame::Frame;
 use handlers::Brief;
-use handlers::BriefFound;
-use handlers::Judge;
-use handlers::ListAnswer;
+use handlers::BriefAnswer;
+use handlers::HandlerJudge;
+use handlers::HandlersAnswer;
 use handlers::Pair;
 use refusal::Refusal;
 use word::Endian;
@@ -15,8 +15,8 @@ ghost use mathlib.Core.Bool.{cond};
 ghost use Prim.Native.Nat.{_+_, _*_, _≤_};
 ghost use lib.ListN.{length};
 ghost use Rattle.code_bodies.specs.Tries.{tryAt, tryAllowed, keptTry, keptLink};
-ghost use Rattle.code_bodies.specs.Code.{linkedStage, listedStage, partsStage, bodyStage, keptAt};
-ghost use Rattle.code_bodies.specs.Answers.{try-found, number-outcome, kept-outcome};
+ghost use Rattle.code_bodies.specs.Code.{linkedStage, listedStage, partsStage, bodyStage, keptCodeAt};
+ghost use Rattle.code_bodies.specs.Answers.{try-found, link-outcome, kept-code-outcome};
 
 // A try: its first unit, how many units, and its handler's offset from the handler list's first byte.
 pub struct Try {
@@ -25,20 +25,20 @@ pub struct Try {
     pub handler: u16,
 }
 
-pub enum TryFound {
+pub enum TryFoundAnswer {
     Got(Try),
     Refused(Refusal),
 }
 
-pub enum Number {
+pub enum LinkAnswer {
     Got(u32),
     Refused(Refusal),
 }
 
 // The whole, with one try and its handler's number, and one handler.
-pub enum KeptAnswer {
+pub enum KeptCodeAnswer {
     Got {
-        head: Head,
+        head: CodeHead,
         attempt: Try,
         link: u32,
         handlers: u32,
@@ -102,7 +102,7 @@ fn tries_found(
     from: usize,
     count: u16,
     k: u32,
-) -> TryFound
+) -> TryFoundAnswer
     requires { ⌜ from + 8 * count ≤ length (now s) ⌝ }
     ensures { λ r. ⌜ try-found r ≡ keptTry order (now (s .entry)) units item from count k ⌝ }
 {
@@ -121,7 +121,7 @@ fn tries_found(
             kept = newer_try(i == k, t, kept);
             floor = t.start as u64 + t.count as u64;
         } else {
-            return TryFound::Refused(Refusal {
+            return TryFoundAnswer::Refused(Refusal {
                 number: 17,
                 place: item,
             });
@@ -130,7 +130,7 @@ fn tries_found(
         i += 1;
         left -= 1;
     }
-    TryFound::Got(kept)
+    TryFoundAnswer::Got(kept)
 }
 
 // The handler's number of each try, of which that of try k is kept. Each try's handler offset is looked for among the starts of the
@@ -138,15 +138,15 @@ fn tries_found(
 fn links_at(
     s: &[u8],
     order: Endian,
-    j: Judge,
+    j: HandlerJudge,
     first: usize,
     handlers: u32,
     from: usize,
     count: u16,
     k: u32,
-) -> Number
+) -> LinkAnswer
     requires { ⌜ from + 8 * count ≤ length (now s) ⌝ }
-    ensures { λ r. ⌜ number-outcome r ≡ keptLink order (now (s .entry)) j first handlers from count k ⌝ }
+    ensures { λ r. ⌜ link-outcome r ≡ keptLink order (now (s .entry)) j first handlers from count k ⌝ }
 {
     let mut place = from;
     let mut kept: u32 = 0;
@@ -159,10 +159,10 @@ fn links_at(
         let mut unseen = handlers;
         while 0 < unseen {
             match handlers::handler_found(s, j, p, 0) {
-                BriefFound::Refused(r) => {
-                    return Number::Refused(r);
+                BriefAnswer::Refused(r) => {
+                    return LinkAnswer::Refused(r);
                 }
-                BriefFound::Got { brief, next } => {
+                BriefAnswer::Got { brief, next } => {
                     if brief.offset == want {
                         kept = newer_number(i == k, number, kept);
                         place += 8;
@@ -176,39 +176,39 @@ fn links_at(
             number += 1;
             unseen -= 1;
         }
-        return Number::Refused(Refusal {
+        return LinkAnswer::Refused(Refusal {
             number: 17,
             place: j.item,
         });
     }
-    Number::Got(kept)
+    LinkAnswer::Got(kept)
 }
 
 // The handler list of an item with tries, and then the tries' handler offsets.
 fn linked_at(
     s: &[u8],
     order: Endian,
-    j: Judge,
-    head: Head,
+    j: HandlerJudge,
+    head: CodeHead,
     attempt: Try,
     from: usize,
     t: u32,
     h: u32,
     k: u32,
-) -> KeptAnswer
+) -> KeptCodeAnswer
     requires { ⌜ from + 8 * (head .tries) ≤ length (now s) ⌝ }
-    ensures { λ r. ⌜ kept-outcome r ≡ linkedStage (now (s .entry)) order j head attempt from t h k ⌝ }
+    ensures { λ r. ⌜ kept-code-outcome r ≡ linkedStage (now (s .entry)) order j head attempt from t h k ⌝ }
 {
     match handlers::handlers_at(s, j, h, k) {
-        ListAnswer::Refused(r) => KeptAnswer::Refused(r),
-        ListAnswer::Got {
+        HandlersAnswer::Refused(r) => KeptCodeAnswer::Refused(r),
+        HandlersAnswer::Got {
             count,
             brief,
             first,
             end,
         } => match links_at(s, order, j, first, count, from, head.tries, t) {
-            Number::Refused(r) => KeptAnswer::Refused(r),
-            Number::Got(link) => KeptAnswer::Got {
+            LinkAnswer::Refused(r) => KeptCodeAnswer::Refused(r),
+            LinkAnswer::Got(link) => KeptCodeAnswer::Got {
                 head,
                 attempt,
                 link,
@@ -226,22 +226,22 @@ fn linked_at(
 fn listed_at(
     s: &[u8],
     order: Endian,
-    j: Judge,
-    head: Head,
+    j: HandlerJudge,
+    head: CodeHead,
     attempt: Try,
     from: usize,
     t: u32,
     h: u32,
     k: u32,
-) -> KeptAnswer
+) -> KeptCodeAnswer
     requires { ⌜ from + 8 * (head .tries) ≤ length (now s) ⌝ }
-    ensures { λ r. ⌜ kept-outcome r ≡ listedStage (now (s .entry)) order j head attempt from t h k ⌝ }
+    ensures { λ r. ⌜ kept-code-outcome r ≡ listedStage (now (s .entry)) order j head attempt from t h k ⌝ }
 {
     let tries = head.tries;
     if 0 < tries {
         return linked_at(s, order, j, head, attempt, from, t, h, k);
     }
-    KeptAnswer::Got {
+    KeptCodeAnswer::Got {
         head,
         attempt,
         link: 0,
@@ -266,49 +266,57 @@ fn listed_at(
 fn parts_at(
     s: &[u8],
     order: Endian,
-    j: Judge,
-    head: Head,
+    j: HandlerJudge,
+    head: CodeHead,
     from: usize,
     t: u32,
     h: u32,
     k: u32,
-) -> KeptAnswer
+) -> KeptCodeAnswer
     requires { ⌜ from + 8 * (head .tries) ≤ length (now s) ⌝ }
-    ensures { λ r. ⌜ kept-outcome r ≡ partsStage (now (s .entry)) order j head from t h k ⌝ }
+    ensures { λ r. ⌜ kept-code-outcome r ≡ partsStage (now (s .entry)) order j head from t h k ⌝ }
 {
     match tries_found(s, order, head.units, j.item, from, head.tries, t) {
-        TryFound::Refused(r) => KeptAnswer::Refused(r),
-        TryFound::Got(attempt) => listed_at(s, order, j, head, attempt, from, t, h, k),
+        TryFoundAnswer::Refused(r) => KeptCodeAnswer::Refused(r),
+        TryFoundAnswer::Got(attempt) => listed_at(s, order, j, head, attempt, from, t, h, k),
     }
 }
 
 // What follows the head: its length first, up to the handler list.
-fn body_at(s: &[u8], f: Frame, item: usize, head: Head, t: u32, h: u32, k: u32) -> KeptAnswer
-    ensures { λ r. ⌜ kept-outcome r ≡ bodyStage (now (s .entry)) f item head t h k ⌝ }
+fn body_at(
+    s: &[u8],
+    f: Frame,
+    item: usize,
+    head: CodeHead,
+    t: u32,
+    h: u32,
+    k: u32,
+) -> KeptCodeAnswer
+    ensures { λ r. ⌜ kept-code-outcome r ≡ bodyStage (now (s .entry)) f item head t h k ⌝ }
 {
     let order = f.order;
     let body = code_heads::body_size(head);
     let tries = 8 * head.tries as usize;
     if s.len() < item {
-        return KeptAnswer::Refused(Refusal {
+        return KeptCodeAnswer::Refused(Refusal {
             number: 9,
             place: item,
         });
     }
     if s.len() - item < body {
-        return KeptAnswer::Refused(Refusal {
+        return KeptCodeAnswer::Refused(Refusal {
             number: 9,
             place: item,
         });
     }
     if s.len() - item - body < tries {
-        return KeptAnswer::Refused(Refusal {
+        return KeptCodeAnswer::Refused(Refusal {
             number: 9,
             place: item,
         });
     }
     let from = item + body;
-    let j = Judge {
+    let j = HandlerJudge {
         types: f.types,
         units: head.units,
         item,
@@ -318,11 +326,11 @@ fn body_at(s: &[u8], f: Frame, item: usize, head: Head, t: u32, h: u32, k: u32) 
 }
 
 // The whole, of which try t with its handler's number, and pair k of handler h, are kept.
-pub fn kept_at(s: &[u8], f: Frame, item: usize, t: u32, h: u32, k: u32) -> KeptAnswer
-    ensures { λ r. ⌜ kept-outcome r ≡ keptAt (now (s .entry)) f item t h k ⌝ }
+pub fn kept_at(s: &[u8], f: Frame, item: usize, t: u32, h: u32, k: u32) -> KeptCodeAnswer
+    ensures { λ r. ⌜ kept-code-outcome r ≡ keptCodeAt (now (s .entry)) f item t h k ⌝ }
 {
     match code_heads::head_at(s, f, item) {
-        HeadAnswer::Refused(r) => KeptAnswer::Refused(r),
-        HeadAnswer::Got(head) => body_at(s, f, item, head, t, h, k),
+        CodeHeadAnswer::Refused(r) => KeptCodeAnswer::Refused(r),
+        CodeHeadAnswer::Got(head) => body_at(s, f, item, head, t, h, k),
     }
 }

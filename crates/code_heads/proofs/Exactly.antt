@@ -10,11 +10,11 @@ use Rattle.refusal.proofs.Exact.{answer-exact, given-exact, exact-iff, at-most}
 use Rattle.word.specs.Words.{u32At}
 use Rattle.frame.specs.declared.Frame.{Frame}
 use Rattle.frame.proofs.Laws.{or-absent-decides}
-use Rattle.code_heads.specs.Heads.{headAt}
-use Rattle.code_heads.specs.Rules.{read-head, HeadRule}
+use Rattle.code_heads.specs.Heads.{codeHeadAt}
+use Rattle.code_heads.specs.Rules.{read-head, CodeHeadRule}
 
-pub head-exact : (s : List ℕ) (f : Frame) (item : ℕ) → Exact (headAt s f item) (HeadRule s f item)
-unfolding headAt
+pub head-exact : (s : List ℕ) (f : Frame) (item : ℕ) → Exact (codeHeadAt s f item) (CodeHeadRule s f item)
+unfolding codeHeadAt
 head-exact s f item =
     exact-iff (given-exact 9 item (at-most (item + 12) (length s)) (given-exact 8 item (or-absent-decides (f .start) (length s) false (u32At (f .order) s (item + 8)))
     (given-exact 9 item (at-most (item + 16) (length s)) (answer-exact (read-head (f .order) s item)))))

@@ -13,37 +13,37 @@ use Rattle.refusal.proofs.Laws.{said, passes, fails}
 use Rattle.word.specs.Words.{u16At, u32At}
 use Rattle.frame.specs.declared.Frame.{Frame}
 use Rattle.frame.specs.Offsets.{allowedOrAbsent}
-use Rattle.code_heads.specs.declared.Head.{Head}
-use Rattle.code_heads.specs.declared.HeadAnswer.{HeadAnswer}
-use Rattle.code_heads.specs.Heads.{headAt, padding, bodySize}
-use Rattle.code_heads.specs.Answers.{head-outcome}
+use Rattle.code_heads.specs.declared.CodeHead.{CodeHead}
+use Rattle.code_heads.specs.declared.CodeHeadAnswer.{CodeHeadAnswer}
+use Rattle.code_heads.specs.Heads.{codeHeadAt, padding, bodySize}
+use Rattle.code_heads.specs.Answers.{code-head-outcome}
 
 -- ---- the head, from the values that were read
 module _ (s : List ℕ) (f : Frame) (item : ℕ) where
-  pub head-low : length s < item → refused (record { number = 9; place = item }) ≡ headAt s f item
-  unfolding headAt
+  pub head-low : length s < item → refused (record { number = 9; place = item }) ≡ codeHeadAt s f item
+  unfolding codeHeadAt
   head-low h = fails _ (lt-leb (item + 12) (length s) (omega arith))
 
   module _ (p : item ≤ length s) where
-    pub head-short : length s - item < 12 → refused (record { number = 9; place = item }) ≡ headAt s f item
-    unfolding headAt
+    pub head-short : length s - item < 12 → refused (record { number = 9; place = item }) ≡ codeHeadAt s f item
+    unfolding codeHeadAt
     head-short h = fails _ (lt-leb (item + 12) (length s) (omega arith))
 
     module _ (q : 12 ≤ length s - item) {debug : ℕ} {b : Bool} (read : debug ≡ u32At (f .order) s (item + 8)) (asked : b ≡ allowedOrAbsent (f .start) (length s) false debug) where
       there : allowedOrAbsent (f .start) (length s) false (u32At (f .order) s (item + 8)) ≡ b
       there = ap (allowedOrAbsent (f .start) (length s) false) (sym read) ∙ sym asked
 
-      pub head-outside : b ≡ false → refused (record { number = 8; place = item }) ≡ headAt s f item
-      unfolding headAt
+      pub head-outside : b ≡ false → refused (record { number = 8; place = item }) ≡ codeHeadAt s f item
+      unfolding codeHeadAt
       head-outside e = passes 9 item (le-leb (item + 12) (length s) (omega arith)) (fails _ (there ∙ e))
 
-      pub head-late : b ≡ true → length s - item < 16 → refused (record { number = 9; place = item }) ≡ headAt s f item
-      unfolding headAt
+      pub head-late : b ≡ true → length s - item < 16 → refused (record { number = 9; place = item }) ≡ codeHeadAt s f item
+      unfolding codeHeadAt
       head-late e h = passes 9 item (le-leb (item + 12) (length s) (omega arith)) (passes 8 item (there ∙ e) (fails _ (lt-leb (item + 16) (length s) (omega arith))))
 
       pub head-got : {r i u t n : ℕ} → b ≡ true → 16 ≤ length s - item → r ≡ u16At (f .order) s item → i ≡ u16At (f .order) s (item + 2) → u ≡ u16At (f .order) s (item + 4)
-          → t ≡ u16At (f .order) s (item + 6) → n ≡ u32At (f .order) s (item + 12) → answer (record { registers = r; ins = i; outs = u; tries = t; debug = debug; units = n }) ≡ headAt s f item
-      unfolding headAt
+          → t ≡ u16At (f .order) s (item + 6) → n ≡ u32At (f .order) s (item + 12) → answer (record { registers = r; ins = i; outs = u; tries = t; debug = debug; units = n }) ≡ codeHeadAt s f item
+      unfolding codeHeadAt
       head-got e h a b c d g =
           passes 9 item (le-leb (item + 12) (length s) (omega arith)) (passes 8 item (there ∙ e) (passes 9 item (le-leb (item + 16) (length s) (omega arith))
           (λ k. answer (record { registers = a k; ins = b k; outs = c k; tries = d k; debug = read k; units = g k }))))
@@ -62,13 +62,13 @@ module _ (tries units : ℕ) where
   unfolding padding
   pad-none p = rw (le-ltb 0 tries p)
 
-pub body-of : (h : Head) {n : ℕ} → n ≡ padding (h .tries) (h .units) → 16 + 2 * h .units + n ≡ bodySize h
+pub body-of : (h : CodeHead) {n : ℕ} → n ≡ padding (h .tries) (h .units) → 16 + 2 * h .units + n ≡ bodySize h
 unfolding bodySize
 body-of h e = ap (λ (x : ℕ). 16 + 2 * h .units + x) e
 
 -- ---- a call, by the arm that was taken
-pub on-head : {B : Type 0} {x c : HeadAnswer} {o : Outcome Head} {y : Outcome B} (k : Head → Outcome B) → head-outcome x ≡ o → x ≡ c → y ≡ (head-outcome c >>= k) → y ≡ (o >>= k)
-on-head = said head-outcome
+pub on-head : {B : Type 0} {x c : CodeHeadAnswer} {o : Outcome CodeHead} {y : Outcome B} (k : CodeHead → Outcome B) → code-head-outcome x ≡ o → x ≡ c → y ≡ (code-head-outcome c >>= k) → y ≡ (o >>= k)
+on-head = said code-head-outcome
 
 pub ruleset pad-laws = (pad-odd, pad-even, pad-none, needs)
 

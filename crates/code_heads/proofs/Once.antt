@@ -3,18 +3,18 @@
 use mathlib.Core.Path.{_≡_, refl}
 use Rattle.refusal.specs.Outcome.{Outcome, answer, refused}
 use Rattle.refusal.proofs.Laws.{one-to-one}
-use Rattle.code_heads.specs.declared.Head.{Head}
-use Rattle.code_heads.specs.Answers.{head-outcome}
-use Rattle.code_heads.specs.declared.HeadAnswer as E
+use Rattle.code_heads.specs.declared.CodeHead.{CodeHead}
+use Rattle.code_heads.specs.Answers.{code-head-outcome}
+use Rattle.code_heads.specs.declared.CodeHeadAnswer as E
 
-head-back : Outcome Head → E.HeadAnswer
+head-back : Outcome CodeHead → E.CodeHeadAnswer
 head-back (answer h) = E.the-variants.Got h
 head-back (refused r) = E.the-variants.Refused r
 
-head-told : (x : E.HeadAnswer) → head-back (head-outcome x) ≡ x
+head-told : (x : E.CodeHeadAnswer) → head-back (code-head-outcome x) ≡ x
 unfolding head-back
 head-told (E.the-variants.Got h) = refl
 head-told (E.the-variants.Refused r) = refl
 
-pub head-once : (x y : E.HeadAnswer) → head-outcome x ≡ head-outcome y → x ≡ y
-head-once = one-to-one head-outcome head-back head-told
+pub head-once : (x y : E.CodeHeadAnswer) → code-head-outcome x ≡ code-head-outcome y → x ≡ y
+head-once = one-to-one code-head-outcome head-back head-told

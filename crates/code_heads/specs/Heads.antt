@@ -8,11 +8,11 @@ use Rattle.refusal.specs.Outcome.{Outcome, answer, given}
 use Rattle.word.specs.Words.{u16At, u32At}
 use Rattle.frame.specs.declared.Frame.{Frame}
 use Rattle.frame.specs.Offsets.{allowedOrAbsent}
-use Rattle.code_heads.specs.declared.Head.{Head}
+use Rattle.code_heads.specs.declared.CodeHead.{CodeHead}
 
 -- fields in stored order: a debug offset that is there and wrong (8) comes before a later field that is missing (9)
-unfoldable pub headAt : List ℕ → Frame → ℕ → Outcome Head
-headAt s f item =
+unfoldable pub codeHeadAt : List ℕ → Frame → ℕ → Outcome CodeHead
+codeHeadAt s f item =
     given (leb (item + 12) (length s)) 9 item
     (given (allowedOrAbsent (f .start) (length s) false (u32At (f .order) s (item + 8))) 8 item
     (given (leb (item + 16) (length s)) 9 item
@@ -30,5 +30,5 @@ unfoldable pub padding : ℕ → ℕ → ℕ
 padding tries units = cond (ltb 0 tries && eqb (units % 2) 1) 2 0
 
 -- how far from the item the tries are
-unfoldable pub bodySize : Head → ℕ
+unfoldable pub bodySize : CodeHead → ℕ
 bodySize h = 16 + 2 * h .units + padding (h .tries) (h .units)

@@ -8,10 +8,10 @@ use Rattle.word.specs.Words.{u16At, u32At}
 use Rattle.word.specs.declared.Endian.{Endian}
 use Rattle.frame.specs.declared.Frame.{Frame}
 use Rattle.frame.specs.Offsets.{AllowedOrAbsent}
-use Rattle.code_heads.specs.declared.Head.{Head}
+use Rattle.code_heads.specs.declared.CodeHead.{CodeHead}
 
 -- six fields, and a debug offset that is 0 or lies in the data section
-abbrev pub read-head : Endian → List ℕ → ℕ → Head
+abbrev pub read-head : Endian → List ℕ → ℕ → CodeHead
 read-head o s p = record {
   registers = u16At o s p;
   ins = u16At o s (p + 2);
@@ -21,7 +21,7 @@ read-head o s p = record {
   units = u32At o s (p + 12);
 }
 
-pub record HeadRule (s : List ℕ) (f : Frame) (item : ℕ) (h : Head) : Type 0 where
+pub record CodeHeadRule (s : List ℕ) (f : Frame) (item : ℕ) (h : CodeHead) : Type 0 where
   pub room : item + 16 ≤ length s
   pub debug : AllowedOrAbsent (f .start) (length s) false (u32At (f .order) s (item + 8))
   pub fields : read-head (f .order) s item ≡ h

@@ -3,11 +3,11 @@
 use frame::Frame;
 use refusal::Refusal;
 ghost use mathlib.Core.Path.{_≡_};
-ghost use Rattle.code_heads.specs.Heads.{headAt, padding, bodySize};
-ghost use Rattle.code_heads.specs.Answers.{head-outcome};
+ghost use Rattle.code_heads.specs.Heads.{codeHeadAt, padding, bodySize};
+ghost use Rattle.code_heads.specs.Answers.{code-head-outcome};
 
 // The head of a code item, in stored order.
-pub struct Head {
+pub struct CodeHead {
     pub registers: u16,
     pub ins: u16,
     pub outs: u16,
@@ -16,24 +16,24 @@ pub struct Head {
     pub units: u32,
 }
 
-pub enum HeadAnswer {
-    Got(Head),
+pub enum CodeHeadAnswer {
+    Got(CodeHead),
     Refused(Refusal),
 }
 
 // The head: 9 where a field is missing, 8 for the debug offset before what is stored after it.
-pub fn head_at(s: &[u8], f: Frame, item: usize) -> HeadAnswer
-    ensures { λ r. ⌜ head-outcome r ≡ headAt (now (s .entry)) f item ⌝ }
+pub fn head_at(s: &[u8], f: Frame, item: usize) -> CodeHeadAnswer
+    ensures { λ r. ⌜ code-head-outcome r ≡ codeHeadAt (now (s .entry)) f item ⌝ }
 {
     let order = f.order;
     if s.len() < item {
-        return HeadAnswer::Refused(Refusal {
+        return CodeHeadAnswer::Refused(Refusal {
             number: 9,
             place: item,
         });
     }
     if s.len() - item < 12 {
-        return HeadAnswer::Refused(Refusal {
+        return CodeHeadAnswer::Refused(Refusal {
             number: 9,
             place: item,
         });
@@ -41,12 +41,12 @@ pub fn head_at(s: &[u8], f: Frame, item: usize) -> HeadAnswer
     let debug = word::u32_at(s, item + 8, order);
     if frame::is_allowed_or_absent(f.start, s.len(), false, debug as usize) {
         if s.len() - item < 16 {
-            return HeadAnswer::Refused(Refusal {
+            return CodeHeadAnswer::Refused(Refusal {
                 number: 9,
                 place: item,
             });
         }
-        return HeadAnswer::Got(Head {
+        return CodeHeadAnswer::Got(CodeHead {
             registers: word::u16_at(s, item, order),
             ins: word::u16_at(s, item + 2, order),
             outs: word::u16_at(s, item + 4, order),
@@ -55,7 +55,7 @@ pub fn head_at(s: &[u8], f: Frame, item: usize) -> HeadAnswer
             units: word::u32_at(s, item + 12, order),
         });
     }
-    HeadAnswer::Refused(Refusal {
+    CodeHeadAnswer::Refused(Refusal {
         number: 8,
         place: item,
     })
@@ -75,7 +75,7 @@ fn padding_of(tries: u16, units: u32) -> u8
 }
 
 // How far from the item the tries are.
-pub fn body_size(h: Head) -> usize
+pub fn body_size(h: CodeHead) -> usize
     ensures { λ r. ⌜ r ≡ bodySize h ⌝ }
 {
     16 + 2 * h.units as usize + padding_of(h.tries, h.units) as usize

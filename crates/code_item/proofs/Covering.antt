@@ -22,17 +22,17 @@ use Rattle.word.specs.Words.{u16At, u32At}
 use Rattle.word.specs.declared.Endian.{Endian}
 use Rattle.frame.specs.declared.Frame.{Frame}
 use Rattle.handlers.specs.declared.Brief.{Brief}
-use Rattle.code_heads.specs.declared.Head.{Head}
+use Rattle.code_heads.specs.declared.CodeHead.{CodeHead}
 use Rattle.code_bodies.specs.declared.Try.{Try}
-use Rattle.code_bodies.specs.declared.KeptAnswer.{KeptAnswer}
-use Rattle.code_bodies.specs.declared.KeptAnswer.the-variants as K
+use Rattle.code_bodies.specs.declared.KeptCodeAnswer.{KeptCodeAnswer}
+use Rattle.code_bodies.specs.declared.KeptCodeAnswer.the-variants as K
 use Rattle.code_bodies.specs.Tries.{tryAt}
-use Rattle.code_bodies.specs.Code.{Code, codeAt, Kept, kept, keptAt}
+use Rattle.code_bodies.specs.Code.{Code, codeAt, KeptCode, kept, keptCodeAt}
 use Rattle.code_bodies.specs.Rules.{EndsBefore, CodeRule}
-use Rattle.code_bodies.specs.Answers.{kept-outcome}
+use Rattle.code_bodies.specs.Answers.{kept-code-outcome}
 use Rattle.code_bodies.proofs.Exactly.{EachTry, tries-head, tries-tail, code-exact, code-lies}
 use Rattle.code_bodies.proofs.Stages.{from-number}
-use Rattle.code_item.specs.declared.Cover.{Cover}
+use Rattle.code_item.specs.declared.CoveringTry.{CoveringTry}
 use Rattle.code_item.specs.Covering.{covers, triesFrom, coverAt}
 use Rattle.code_item.specs.Code.{coveringOf}
 use Rattle.code_item.specs.Answers.{cover-meant}
@@ -109,16 +109,16 @@ tries-are o s units (t ∷ l) (suc n) p e =
     let h = tries-head o s units p e in
     λ i. record { start = h .start i; count = h .count i; handler = h .handler i } ∷ tries-are o s units l n (p + 8) (tries-tail o s units p e) i
 
-module _ (s : List ℕ) (f : Frame) (item address : ℕ) {x : KeptAnswer} (e : kept-outcome x ≡ keptAt s f item 0 0 0) where
+module _ (s : List ℕ) (f : Frame) (item address : ℕ) {x : KeptCodeAnswer} (e : kept-code-outcome x ≡ keptCodeAt s f item 0 0 0) where
   pub covering-refused : {r : Refusal} → x ≡ K.Refused r → refused r ≡ coveringOf s f item address
-  unfolding coveringOf keptAt _>>=_
-  covering-refused {r} t = go (codeAt s f item) (sym (ap kept-outcome t) ∙ e)
+  unfolding coveringOf keptCodeAt _>>=_
+  covering-refused {r} t = go (codeAt s f item) (sym (ap kept-code-outcome t) ∙ e)
     where
       go : (o : Outcome Code) → refused r ≡ (o >>= kept 0 0 0) → refused r ≡ (o >>= λ (c : Code). answer (position (covers address) (c .tries)))
       go (answer c) h = absurd (never h)
       go (refused q) h = cc
 
-  module _ {head : Head} {a : Try} {l n : ℕ} {b : Brief} {from base end : ℕ} (t : x ≡ K.Got head a l n b from base end) where
+  module _ {head : CodeHead} {a : Try} {l n : ℕ} {b : Brief} {from base end : ℕ} (t : x ≡ K.Got head a l n b from base end) where
     record Behind : Type 0 where
       code : Code
       rule : CodeRule s f item code
@@ -126,24 +126,24 @@ module _ (s : List ℕ) (f : Frame) (item address : ℕ) {x : KeptAnswer} (e : k
       from-is : code .from ≡ from
 
     behind : Behind
-    unfolding keptAt
+    unfolding keptCodeAt
     behind =
         let all = bind-exact _ _ (code-exact s f item) (λ c. answer-exact _) in
-        let found = all .sound (record { head = head; attempt = a; link = l; handlers = n; brief = b; from = from; base = base; end = end }) (sym (sym (ap kept-outcome t) ∙ e)) in
-        record { code = found .0; rule = found .1 .0; head-is = ap (λ (k : Kept). k .head) (found .1 .1); from-is = ap (λ (k : Kept). k .from) (found .1 .1) }
+        let found = all .sound (record { head = head; attempt = a; link = l; handlers = n; brief = b; from = from; base = base; end = end }) (sym (sym (ap kept-code-outcome t) ∙ e)) in
+        record { code = found .0; rule = found .1 .0; head-is = ap (λ (k : KeptCode). k .head) (found .1 .1); from-is = ap (λ (k : KeptCode). k .from) (found .1 .1) }
 
     pub covering-room : from + 8 * head .tries ≤ length s
     covering-room =
         let c = behind in
         let w = code-lies s f item (c .code) (c .rule) in
-        let tries = ap (λ (h : Head). h .tries) (c .head-is) in
+        let tries = ap (λ (h : CodeHead). h .tries) (c .head-is) in
         let place = c .from-is in
         let p = w .tries-inside in
         let q = w .base-inside in
         let r = w .inside in
         omega arith
 
-    pub covering-got : (v : Cover) → cover-meant v ≡ coverAt (f .order) s from (head .tries) address → answer (cover-meant v) ≡ coveringOf s f item address
+    pub covering-got : (v : CoveringTry) → cover-meant v ≡ coverAt (f .order) s from (head .tries) address → answer (cover-meant v) ≡ coveringOf s f item address
     unfolding coveringOf coverAt
     covering-got v g =
         let c = behind in

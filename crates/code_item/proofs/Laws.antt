@@ -16,7 +16,7 @@ use Rattle.frame.specs.declared.Frame.{Frame}
 use Rattle.handlers.specs.declared.Pair.{Pair}
 use Rattle.handlers.specs.declared.Brief.{Brief}
 use Rattle.handlers.specs.Handlers as H
-use Rattle.code_bodies.specs.Code.{Code, codeAt, Kept, kept, keptAt}
+use Rattle.code_bodies.specs.Code.{Code, codeAt, KeptCode, kept, keptCodeAt}
 use Rattle.code_bodies.proofs.Stages.{on-kept}
 use Rattle.code_item.specs.declared.Outline.{Outline}
 use Rattle.code_item.specs.declared.Catch.{Catch}
@@ -24,17 +24,17 @@ use Rattle.code_item.specs.Code.{outlineAt, Linked, tryOf, Handed, handl
 use Rattle.code_item.specs.Answers.{catch-meant}
 
 module _ (s : List ℕ) (f : Frame) (item : ℕ) where
-  pub outline-by : {y : Outcome Outline} → y ≡ (keptAt s f item 0 0 0 >>= λ (c : Kept). answer (record { head = c .head; handlers = c .handlers; from = c .from; base = c .base; end = c .end })) → y ≡ outlineAt s f item
-  unfolding outlineAt keptAt _>>=_
+  pub outline-by : {y : Outcome Outline} → y ≡ (keptCodeAt s f item 0 0 0 >>= λ (c : KeptCode). answer (record { head = c .head; handlers = c .handlers; from = c .from; base = c .base; end = c .end })) → y ≡ outlineAt s f item
+  unfolding outlineAt keptCodeAt _>>=_
   outline-by e = e ∙ bind-assoc (codeAt s f item) (kept 0 0 0) _
 
-  pub try-of-by : (t : ℕ) {y : Outcome Linked} → y ≡ (keptAt s f item t 0 0 >>= λ (c : Kept). given (ltb t (c .head .tries)) 7 0 (answer (record { attempt = c .attempt; number = c .link }))) → y ≡ tryOf s f item t
-  unfolding tryOf keptAt _>>=_
+  pub try-of-by : (t : ℕ) {y : Outcome Linked} → y ≡ (keptCodeAt s f item t 0 0 >>= λ (c : KeptCode). given (ltb t (c .head .tries)) 7 0 (answer (record { attempt = c .attempt; number = c .link }))) → y ≡ tryOf s f item t
+  unfolding tryOf keptCodeAt _>>=_
   try-of-by t e = e ∙ bind-assoc (codeAt s f item) (kept t 0 0) _
 
   pub handler-of-by : (h : ℕ) {y : Outcome Handed}
-      → y ≡ (keptAt s f item 0 h 0 >>= λ (c : Kept). given (ltb h (c .handlers)) 7 0 (answer (record { offset = c .brief .offset; pairs = c .brief .pairs; all = catchIn (c .brief) }))) → y ≡ handlerOf s f item h
-  unfolding handlerOf keptAt catchIn _>>=_
+      → y ≡ (keptCodeAt s f item 0 h 0 >>= λ (c : KeptCode). given (ltb h (c .handlers)) 7 0 (answer (record { offset = c .brief .offset; pairs = c .brief .pairs; all = catchIn (c .brief) }))) → y ≡ handlerOf s f item h
+  unfolding handlerOf keptCodeAt catchIn _>>=_
   handler-of-by h e =
       e ∙ bind-assoc (codeAt s f item) (kept 0 h 0) _
       ∙ λ i. codeAt s f item >>= λ (c : Code). given (ltb h (length (c .handlers .handlers))) 7 0 (answer (record {
@@ -47,8 +47,8 @@ module _ (s : List ℕ) (f : Frame) (item : ℕ) where
       caught none = refl
       caught (some a) = refl
 
-  pub pair-of-by : (h k : ℕ) {y : Outcome Pair} → y ≡ (keptAt s f item 0 h k >>= λ (c : Kept). given (ltb h (c .handlers)) 7 0 (pairIn (c .brief) k)) → y ≡ pairOf s f item h k
-  unfolding pairOf keptAt pairIn _>>=_
+  pub pair-of-by : (h k : ℕ) {y : Outcome Pair} → y ≡ (keptCodeAt s f item 0 h k >>= λ (c : KeptCode). given (ltb h (c .handlers)) 7 0 (pairIn (c .brief) k)) → y ≡ pairOf s f item h k
+  unfolding pairOf keptCodeAt pairIn _>>=_
   pair-of-by h k e = e ∙ bind-assoc (codeAt s f item) (kept 0 h k) _
 
 -- a handler that is handed out

@@ -14,8 +14,8 @@ use Rattle.code_item.specs.declared.TryAnswer as T
 use Rattle.code_item.specs.declared.Catch as A
 use Rattle.code_item.specs.declared.HandlerAnswer as H
 use Rattle.code_item.specs.declared.PairAnswer as P
-use Rattle.code_item.specs.declared.Cover as O
-use Rattle.code_item.specs.declared.CoverAnswer as W
+use Rattle.code_item.specs.declared.CoveringTry as O
+use Rattle.code_item.specs.declared.CoveringTryAnswer as W
 
 code-back : Outcome Outline → C.CodeAnswer
 code-back (answer o) = C.the-variants.Got o
@@ -70,16 +70,16 @@ pair-told (P.the-variants.Refused r) = refl
 pub pair-once : (x y : P.PairAnswer) → pair-outcome x ≡ pair-outcome y → x ≡ y
 pair-once = one-to-one pair-outcome pair-back pair-told
 
-cover-back : Outcome (Option ℕ) → W.CoverAnswer
-cover-back (answer none) = W.the-variants.Got O.the-variants.Nothing
+cover-back : Outcome (Option ℕ) → W.CoveringTryAnswer
+cover-back (answer none) = W.the-variants.Got O.the-variants.Absent
 cover-back (answer (some n)) = W.the-variants.Got (O.the-variants.Number n)
 cover-back (refused r) = W.the-variants.Refused r
 
-cover-told : (x : W.CoverAnswer) → cover-back (cover-outcome x) ≡ x
+cover-told : (x : W.CoveringTryAnswer) → cover-back (cover-outcome x) ≡ x
 unfolding cover-back
-cover-told (W.the-variants.Got O.the-variants.Nothing) = refl
+cover-told (W.the-variants.Got O.the-variants.Absent) = refl
 cover-told (W.the-variants.Got (O.the-variants.Number n)) = refl
 cover-told (W.the-variants.Refused r) = refl
 
-pub cover-once : (x y : W.CoverAnswer) → cover-outcome x ≡ cover-outcome y → x ≡ y
+pub cover-once : (x y : W.CoveringTryAnswer) → cover-outcome x ≡ cover-outcome y → x ≡ y
 cover-once = one-to-one cover-outcome cover-back cover-told

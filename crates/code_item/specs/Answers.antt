@@ -10,8 +10,8 @@ use Rattle.code_item.specs.declared.TryAnswer as T
 use Rattle.code_item.specs.declared.Catch as A
 use Rattle.code_item.specs.declared.HandlerAnswer as H
 use Rattle.code_item.specs.declared.PairAnswer as P
-use Rattle.code_item.specs.declared.Cover as O
-use Rattle.code_item.specs.declared.CoverAnswer as W
+use Rattle.code_item.specs.declared.CoveringTry as O
+use Rattle.code_item.specs.declared.CoveringTryAnswer as W
 
 abbrev pub code-outcome : C.CodeAnswer → Outcome Outline
 code-outcome (C.the-variants.Got o) = answer o
@@ -33,10 +33,10 @@ abbrev pub pair-outcome : P.PairAnswer → Outcome Pair
 pair-outcome (P.the-variants.Got p) = answer p
 pair-outcome (P.the-variants.Refused r) = refused r
 
-abbrev pub cover-meant : O.Cover → Option ℕ
-cover-meant O.the-variants.Nothing = none
+abbrev pub cover-meant : O.CoveringTry → Option ℕ
+cover-meant O.the-variants.Absent = none
 cover-meant (O.the-variants.Number n) = some n
 
-abbrev pub cover-outcome : W.CoverAnswer → Outcome (Option ℕ)
+abbrev pub cover-outcome : W.CoveringTryAnswer → Outcome (Option ℕ)
 cover-outcome (W.the-variants.Got c) = answer (cover-meant c)
 cover-outcome (W.the-variants.Refused r) = refused r

@@ -1,8 +1,8 @@
 // Code items, their tries, handlers and pairs by number, and the try that covers an address.
 // `s` ends where the data section ends, `item` is the place of the code item.
-use code_bodies::KeptAnswer;
+use code_bodies::KeptCodeAnswer;
 use code_bodies::Try;
-use code_heads::Head;
+use code_heads::CodeHead;
 use frame::Frame;
 use handlers::Brief;
 use handlers::Pair;
@@ -19,7 +19,7 @@ ghost use Rattle.code_item.specs.Answers.{code-outcome, try-outcome, cat
 
 // The sizes, counts and places of a code item: 16 bytes after its place its units begin, its tries at `from`, its handler list at `base`.
 pub struct Outline {
-    pub head: Head,
+    pub head: CodeHead,
     pub handlers: u32,
     pub from: usize,
     pub base: usize,
@@ -58,13 +58,13 @@ pub enum PairAnswer {
 }
 
 // The number of the try that covers an address.
-pub enum Cover {
-    Nothing,
+pub enum CoveringTry {
+    Absent,
     Number(u32),
 }
 
-pub enum CoverAnswer {
-    Got(Cover),
+pub enum CoveringTryAnswer {
+    Got(CoveringTry),
     Refused(Refusal),
 }
 
@@ -73,8 +73,8 @@ pub fn code_at(s: &[u8], f: Frame, item: usize) -> CodeAnswer
     ensures { λ r. ⌜ code-outcome r ≡ outlineAt (now (s .entry)) f item ⌝ }
 {
     match code_bodies::kept_at(s, f, item, 0, 0, 0) {
-        KeptAnswer::Refused(r) => CodeAnswer::Refused(r),
-        KeptAnswer::Got {
+        KeptCodeAnswer::Refused(r) => CodeAnswer::Refused(r),
+        KeptCodeAnswer::Got {
             head,
             attempt: _,
             link: _,
@@ -98,8 +98,8 @@ pub fn try_at(s: &[u8], f: Frame, item: usize, t: u32) -> TryAnswer
     ensures { λ r. ⌜ try-outcome r ≡ tryOf (now (s .entry)) f item t ⌝ }
 {
     match code_bodies::kept_at(s, f, item, t, 0, 0) {
-        KeptAnswer::Refused(r) => TryAnswer::Refused(r),
-        KeptAnswer::Got {
+        KeptCodeAnswer::Refused(r) => TryAnswer::Refused(r),
+        KeptCodeAnswer::Got {
             head,
             attempt,
             link,
@@ -138,8 +138,8 @@ pub fn handler_at(s: &[u8], f: Frame, item: usize, h: u32) -> HandlerAnswer
     ensures { λ r. ⌜ handler-outcome r ≡ handlerOf (now (s .entry)) f item h ⌝ }
 {
     match code_bodies::kept_at(s, f, item, 0, h, 0) {
-        KeptAnswer::Refused(r) => HandlerAnswer::Refused(r),
-        KeptAnswer::Got {
+        KeptCodeAnswer::Refused(r) => HandlerAnswer::Refused(r),
+        KeptCodeAnswer::Got {
             head: _,
             attempt: _,
             link: _,
@@ -183,8 +183,8 @@ pub fn pair_at(s: &[u8], f: Frame, item: usize, h: u32, k: u32) -> PairAnswer
     ensures { λ r. ⌜ pair-outcome r ≡ pairOf (now (s .entry)) f item h k ⌝ }
 {
     match code_bodies::kept_at(s, f, item, 0, h, k) {
-        KeptAnswer::Refused(r) => PairAnswer::Refused(r),
-        KeptAnswer::Got {
+        KeptCodeAnswer::Refused(r) => PairAnswer::Refused(r),
+        KeptCodeAnswer::Got {
             head: _,
             attempt: _,
             link: _,
@@ -216,7 +216,7 @@ fn is_covering(start: u32, count: u16, address: u32) -> bool
 }
 
 // The first try that covers an address, of those that lie from a place on.
-fn cover_at(s: &[u8], order: Endian, from: usize, count: u16, address: u32) -> Cover
+fn cover_at(s: &[u8], order: Endian, from: usize, count: u16, address: u32) -> CoveringTry
     requires { ⌜ from + 8 * count ≤ length (now s) ⌝ }
     ensures { λ r. ⌜ cover-meant r ≡ coverAt order (now (s .entry)) from count address ⌝ }
 {
@@ -227,23 +227,23 @@ fn cover_at(s: &[u8], order: Endian, from: usize, count: u16, address: u32) -> C
         let start = word::u32_at(s, place, order);
         let units = word::u16_at(s, place + 4, order);
         if is_covering(start, units, address) {
-            return Cover::Number(i);
+            return CoveringTry::Number(i);
         }
         place += 8;
         i += 1;
         left -= 1;
     }
-    Cover::Nothing
+    CoveringTry::Absent
 }
 
 // The try that covers an address, of the code item at a place.
-pub fn covering_try(s: &[u8], f: Frame, item: usize, address: u32) -> CoverAnswer
+pub fn covering_try(s: &[u8], f: Frame, item: usize, address: u32) -> CoveringTryAnswer
     ensures { λ r. ⌜ cover-outcome r ≡ coveringOf (now (s .entry)) f item address ⌝ }
 {
     let order = f.order;
     match code_bodies::kept_at(s, f, item, 0, 0, 0) {
-        KeptAnswer::Refused(r) => CoverAnswer::Refused(r),
-        KeptAnswer::Got {
+        KeptCodeAnswer::Refused(r) => CoveringTryAnswer::Refused(r),
+        KeptCodeAnswer::Got {
             head,
             attempt: _,
             link: _,
@@ -252,6 +252,6 @@ pub fn covering_try(s: &[u8], f: Frame, item: usize, address: u32) -> CoverAnswe
             from,
             base: _,
             end: _,
-        } => CoverAnswer::Got(cover_at(s, order, from, head.tries, address)),
+        } => CoveringTryAnswer::Got(cover_at(s, order, from, head.tries, address)),
     }
 }

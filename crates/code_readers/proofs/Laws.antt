@@ -37,14 +37,14 @@ use Rattle.code_bodies.proofs.Exactly.{code-exact}
 use Rattle.class_readers.specs.declared.Spot.{Spot}
 use Rattle.class_readers.specs.declared.SpotAnswer.{SpotAnswer}
 use Rattle.class_readers.specs.declared.SpotAnswer.the-variants as S
-use Rattle.code_readers.specs.declared.MaybeCode.{MaybeCode}
+use Rattle.code_readers.specs.declared.MaybeCodeAnswer.{MaybeCodeAnswer}
 use Rattle.class_readers.specs.Spots.{methodSpot}
 use Rattle.code_readers.specs.Code.{codeIn, unitsUnder, unitsOver, unitsIn, unitsContent, unitsInto, unitsWritten}
 use Rattle.class_readers.specs.Answers.{spot-outcome}
 use Rattle.code_readers.specs.Answers.{maybe-code}
 use Rattle.class_readers.proofs.SpotLaws.{on-spot, stays-none, goes-onward, framed}
 
-pub on-code : {B : Type 0} {x c : MaybeCode} {o : Outcome (Option Outline)} {y : Outcome B} (k : Option Outline → Outcome B) → maybe-code x ≡ o → x ≡ c → y ≡ (maybe-code c >>= k) → y ≡ (o >>= k)
+pub on-code : {B : Type 0} {x c : MaybeCodeAnswer} {o : Outcome (Option Outline)} {y : Outcome B} (k : Option Outline → Outcome B) → maybe-code x ≡ o → x ≡ c → y ≡ (maybe-code c >>= k) → y ≡ (o >>= k)
 on-code = said maybe-code
 
 -- ---- tries and handlers that were read in the file up to the data section's end, s, against the file's counts, r

@@ -25,8 +25,8 @@ outlineUnder f s = do
   o ← C.outlineAt (section f (s .header)) (frame-of (s .header) 0) (s .place)
   answer (some o)
 
-unfoldable pub codeOf : List ℕ → ℕ → ℕ → ℕ → Outcome (Option Outline)
-codeOf f c list k = methodSpot f c list k >>= onward (outlineUnder f)
+unfoldable pub methodCode : List ℕ → ℕ → ℕ → ℕ → Outcome (Option Outline)
+methodCode f c list k = methodSpot f c list k >>= onward (outlineUnder f)
 
 -- try t, with the number of its handler
 unfoldable pub tryUnder : List ℕ → ℕ → Spot → Outcome (Option C.Linked)
@@ -49,7 +49,7 @@ unfoldable pub handlersIn : Outline → Outcome (Option ℕ)
 handlersIn o = answer (some (o .handlers))
 
 unfoldable pub handlerCount : List ℕ → ℕ → ℕ → ℕ → Outcome (Option ℕ)
-handlerCount f c list k = codeOf f c list k >>= onward handlersIn
+handlerCount f c list k = methodCode f c list k >>= onward handlersIn
 
 unfoldable pub handlerUnder : List ℕ → ℕ → Spot → Outcome (Option C.Handed)
 handlerUnder f h s = do
@@ -73,8 +73,8 @@ unitsUnder f room s = do
   c ← codeIn f s
   given (leb (length (c .units)) room) 19 0 (answer (some (length (c .units))))
 
-unfoldable pub unitsOf : List ℕ → ℕ → ℕ → ℕ → ℕ → Outcome (Option ℕ)
-unitsOf f c list k room = methodSpot f c list k >>= onward (unitsUnder f room)
+unfoldable pub methodUnits : List ℕ → ℕ → ℕ → ℕ → ℕ → Outcome (Option ℕ)
+methodUnits f c list k room = methodSpot f c list k >>= onward (unitsUnder f room)
 
 -- the output afterwards: "Refusals change no lent byte or unit. Success writes the answer's places and no others."
 unfoldable pub unitsOver : Outcome Code → List ℕ → List ℕ

@@ -15,21 +15,21 @@ pub use methods::handler_pair;
 pub use methods::try_item;
 pub use methods::units;
 
-pub enum MaybeCode {
+pub enum MaybeCodeAnswer {
     Absent,
     Got(Outline),
     Refused(Refusal),
 }
 
 // A try, and the number of its handler in the list.
-pub enum MaybeTry {
+pub enum MaybeTryAnswer {
     Absent,
     Got { attempt: Try, number: u32 },
     Refused(Refusal),
 }
 
 // A handler's offset in the list, how many pairs it has, and its catch-all.
-pub enum MaybeHandler {
+pub enum MaybeHandlerAnswer {
     Absent,
     Got {
         offset: usize,
@@ -39,7 +39,7 @@ pub enum MaybeHandler {
     Refused(Refusal),
 }
 
-pub enum MaybePair {
+pub enum MaybePairAnswer {
     Absent,
     Got(Pair),
     Refused(Refusal),

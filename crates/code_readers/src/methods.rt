@@ -3,12 +3,12 @@ use super::MaybeCode;
 use super::MaybeHandler;
 use super::MaybePair;
 use super::MaybeTry;
-use class_readers::MaybeCount;
+use class_readers::MaybeCountAnswer;
 use class_readers::Spot;
 use class_readers::SpotAnswer;
 use code_item::CodeAnswer;
-use code_item::Cover;
-use code_item::CoverAnswer;
+use code_item::CoveringTry;
+use code_item::CoveringTryAnswer;
 use code_item::HandlerAnswer;
 use code_item::PairAnswer;
 use code_item::TryAnswer;
@@ -16,12 +16,12 @@ use code_units::UnitsAnswer;
 ghost use mathlib.Core.Path.{_≡_};
 ghost use lib.ListN.{length};
 ghost use Rattle.code_item.specs.Answers.{cover-outcome};
-ghost use Rattle.code_readers.specs.Code.{outlineUnder, codeOf, tryUnder, tryNumber, coverUnder, coveringTry, handlerCount, handlerUnder, handlerNumber, pairUnder, handlerPair};
-ghost use Rattle.code_readers.specs.Code.{unitsInto, unitsWritten, unitsUnder, unitsOf, unitsOver, unitsContent, codeIn};
+ghost use Rattle.code_readers.specs.Code.{outlineUnder, methodCode, tryUnder, tryNumber, coverUnder, coveringTry, handlerCount, handlerUnder, handlerNumber, pairUnder, handlerPair};
+ghost use Rattle.code_readers.specs.Code.{unitsInto, unitsWritten, unitsUnder, methodUnits, unitsOver, unitsContent, codeIn};
 ghost use Rattle.class_readers.specs.Answers.{maybe-count};
 ghost use Rattle.code_readers.specs.Answers.{maybe-code, maybe-try, maybe-handler, maybe-pair};
 
-fn outline_under(f: &[u8], s: Spot) -> MaybeCode
+fn outline_under(f: &[u8], s: Spot) -> MaybeCodeAnswer
     ensures { λ r. ⌜ maybe-code r ≡ outlineUnder (now (f .entry)) s ⌝ }
 {
     let h = s.header;
@@ -30,34 +30,34 @@ fn outline_under(f: &[u8], s: Spot) -> MaybeCode
         header::frame_of(h, 0),
         s.place as usize,
     ) {
-        CodeAnswer::Refused(r) => MaybeCode::Refused(r),
-        CodeAnswer::Got(o) => MaybeCode::Got(o),
+        CodeAnswer::Refused(r) => MaybeCodeAnswer::Refused(r),
+        CodeAnswer::Got(o) => MaybeCodeAnswer::Got(o),
     }
 }
 
 // The sizes, counts and places of the code of method k of a list of class c.
-pub fn code(f: &[u8], c: u32, list: u32, k: u32) -> MaybeCode
-    ensures { λ r. ⌜ maybe-code r ≡ codeOf (now (f .entry)) c list k ⌝ }
+pub fn code(f: &[u8], c: u32, list: u32, k: u32) -> MaybeCodeAnswer
+    ensures { λ r. ⌜ maybe-code r ≡ methodCode (now (f .entry)) c list k ⌝ }
 {
     match class_readers::method_spot(f, c, list, k) {
-        SpotAnswer::Refused(r) => MaybeCode::Refused(r),
-        SpotAnswer::Absent => MaybeCode::Absent,
+        SpotAnswer::Refused(r) => MaybeCodeAnswer::Refused(r),
+        SpotAnswer::Absent => MaybeCodeAnswer::Absent,
         SpotAnswer::Got(s) => outline_under(f, s),
     }
 }
 
 // How many handlers it has.
-pub fn handler_count(f: &[u8], c: u32, list: u32, k: u32) -> MaybeCount
+pub fn handler_count(f: &[u8], c: u32, list: u32, k: u32) -> MaybeCountAnswer
     ensures { λ r. ⌜ maybe-count r ≡ handlerCount (now (f .entry)) c list k ⌝ }
 {
     match code(f, c, list, k) {
-        MaybeCode::Refused(r) => MaybeCount::Refused(r),
-        MaybeCode::Absent => MaybeCount::Absent,
-        MaybeCode::Got(o) => MaybeCount::Got(o.handlers as usize),
+        MaybeCodeAnswer::Refused(r) => MaybeCountAnswer::Refused(r),
+        MaybeCodeAnswer::Absent => MaybeCountAnswer::Absent,
+        MaybeCodeAnswer::Got(o) => MaybeCountAnswer::Got(o.handlers as usize),
     }
 }
 
-fn try_under(f: &[u8], s: Spot, t: u32) -> MaybeTry
+fn try_under(f: &[u8], s: Spot, t: u32) -> MaybeTryAnswer
     ensures { λ r. ⌜ maybe-try r ≡ tryUnder (now (f .entry)) t s ⌝ }
 {
     let h = s.header;
@@ -67,23 +67,23 @@ fn try_under(f: &[u8], s: Spot, t: u32) -> MaybeTry
         s.place as usize,
         t,
     ) {
-        TryAnswer::Refused(r) => MaybeTry::Refused(r),
-        TryAnswer::Got { attempt, number } => MaybeTry::Got { attempt, number },
+        TryAnswer::Refused(r) => MaybeTryAnswer::Refused(r),
+        TryAnswer::Got { attempt, number } => MaybeTryAnswer::Got { attempt, number },
     }
 }
 
 // Try t of it.
-pub fn try_item(f: &[u8], c: u32, list: u32, k: u32, t: u32) -> MaybeTry
+pub fn try_item(f: &[u8], c: u32, list: u32, k: u32, t: u32) -> MaybeTryAnswer
     ensures { λ r. ⌜ maybe-try r ≡ tryNumber (now (f .entry)) c list k t ⌝ }
 {
     match class_readers::method_spot(f, c, list, k) {
-        SpotAnswer::Refused(r) => MaybeTry::Refused(r),
-        SpotAnswer::Absent => MaybeTry::Absent,
+        SpotAnswer::Refused(r) => MaybeTryAnswer::Refused(r),
+        SpotAnswer::Absent => MaybeTryAnswer::Absent,
         SpotAnswer::Got(s) => try_under(f, s, t),
     }
 }
 
-fn cover_under(f: &[u8], s: Spot, address: u32) -> CoverAnswer
+fn cover_under(f: &[u8], s: Spot, address: u32) -> CoveringTryAnswer
     ensures { λ r. ⌜ cover-outcome r ≡ coverUnder (now (f .entry)) address s ⌝ }
 {
     let h = s.header;
@@ -96,17 +96,17 @@ fn cover_under(f: &[u8], s: Spot, address: u32) -> CoverAnswer
 }
 
 // The number of its try that covers an address; where there is no code, no try does.
-pub fn covering_try(f: &[u8], c: u32, list: u32, k: u32, address: u32) -> CoverAnswer
+pub fn covering_try(f: &[u8], c: u32, list: u32, k: u32, address: u32) -> CoveringTryAnswer
     ensures { λ r. ⌜ cover-outcome r ≡ coveringTry (now (f .entry)) c list k address ⌝ }
 {
     match class_readers::method_spot(f, c, list, k) {
-        SpotAnswer::Refused(r) => CoverAnswer::Refused(r),
-        SpotAnswer::Absent => CoverAnswer::Got(Cover::Nothing),
+        SpotAnswer::Refused(r) => CoveringTryAnswer::Refused(r),
+        SpotAnswer::Absent => CoveringTryAnswer::Got(CoveringTry::Absent),
         SpotAnswer::Got(s) => cover_under(f, s, address),
     }
 }
 
-fn handler_under(f: &[u8], s: Spot, number: u32) -> MaybeHandler
+fn handler_under(f: &[u8], s: Spot, number: u32) -> MaybeHandlerAnswer
     ensures { λ r. ⌜ maybe-handler r ≡ handlerUnder (now (f .entry)) number s ⌝ }
 {
     let h = s.header;
@@ -116,23 +116,23 @@ fn handler_under(f: &[u8], s: Spot, number: u32) -> MaybeHandler
         s.place as usize,
         number,
     ) {
-        HandlerAnswer::Refused(r) => MaybeHandler::Refused(r),
-        HandlerAnswer::Got { offset, pairs, all } => MaybeHandler::Got { offset, pairs, all },
+        HandlerAnswer::Refused(r) => MaybeHandlerAnswer::Refused(r),
+        HandlerAnswer::Got { offset, pairs, all } => MaybeHandlerAnswer::Got { offset, pairs, all },
     }
 }
 
 // A handler of it.
-pub fn handler(f: &[u8], c: u32, list: u32, k: u32, number: u32) -> MaybeHandler
+pub fn handler(f: &[u8], c: u32, list: u32, k: u32, number: u32) -> MaybeHandlerAnswer
     ensures { λ r. ⌜ maybe-handler r ≡ handlerNumber (now (f .entry)) c list k number ⌝ }
 {
     match class_readers::method_spot(f, c, list, k) {
-        SpotAnswer::Refused(r) => MaybeHandler::Refused(r),
-        SpotAnswer::Absent => MaybeHandler::Absent,
+        SpotAnswer::Refused(r) => MaybeHandlerAnswer::Refused(r),
+        SpotAnswer::Absent => MaybeHandlerAnswer::Absent,
         SpotAnswer::Got(s) => handler_under(f, s, number),
     }
 }
 
-fn pair_under(f: &[u8], s: Spot, number: u32, p: u32) -> MaybePair
+fn pair_under(f: &[u8], s: Spot, number: u32, p: u32) -> MaybePairAnswer
     ensures { λ r. ⌜ maybe-pair r ≡ pairUnder (now (f .entry)) number p s ⌝ }
 {
     let h = s.header;
@@ -143,24 +143,24 @@ fn pair_under(f: &[u8], s: Spot, number: u32, p: u32) -> MaybePair
         number,
         p,
     ) {
-        PairAnswer::Refused(r) => MaybePair::Refused(r),
-        PairAnswer::Got(pair) => MaybePair::Got(pair),
+        PairAnswer::Refused(r) => MaybePairAnswer::Refused(r),
+        PairAnswer::Got(pair) => MaybePairAnswer::Got(pair),
     }
 }
 
 // Pair p of a handler of it.
-pub fn handler_pair(f: &[u8], c: u32, list: u32, k: u32, number: u32, p: u32) -> MaybePair
+pub fn handler_pair(f: &[u8], c: u32, list: u32, k: u32, number: u32, p: u32) -> MaybePairAnswer
     ensures { λ r. ⌜ maybe-pair r ≡ handlerPair (now (f .entry)) c list k number p ⌝ }
 {
     match class_readers::method_spot(f, c, list, k) {
-        SpotAnswer::Refused(r) => MaybePair::Refused(r),
-        SpotAnswer::Absent => MaybePair::Absent,
+        SpotAnswer::Refused(r) => MaybePairAnswer::Refused(r),
+        SpotAnswer::Absent => MaybePairAnswer::Absent,
         SpotAnswer::Got(s) => pair_under(f, s, number, p),
     }
 }
 
 // So many units of the code at a place.
-fn units_into(f: &[u8], s: Spot, count: u32, out: &mut [u16]) -> MaybeCount
+fn units_into(f: &[u8], s: Spot, count: u32, out: &mut [u16]) -> MaybeCountAnswer
     ensures answer { λ r. ⌜ maybe-count r ≡ unitsInto (now (f .entry)) s count (length (now (out .entry))) ⌝ }
     ensures content { λ r. ⌜ now (out .exit) ≡ unitsWritten (now (f .entry)) s count (now (out .entry)) ⌝ }
 {
@@ -173,12 +173,12 @@ fn units_into(f: &[u8], s: Spot, count: u32, out: &mut [u16]) -> MaybeCount
         count,
         out,
     ) {
-        UnitsAnswer::Refused(r) => MaybeCount::Refused(r),
-        UnitsAnswer::Written(n) => MaybeCount::Got(n as usize),
+        UnitsAnswer::Refused(r) => MaybeCountAnswer::Refused(r),
+        UnitsAnswer::Written(n) => MaybeCountAnswer::Got(n as usize),
     }
 }
 
-fn units_under(f: &[u8], s: Spot, out: &mut [u16]) -> MaybeCount
+fn units_under(f: &[u8], s: Spot, out: &mut [u16]) -> MaybeCountAnswer
     ensures answer { λ r. ⌜ maybe-count r ≡ unitsUnder (now (f .entry)) (length (now (out .entry))) s ⌝ }
     ensures content { λ r. ⌜ now (out .exit) ≡ unitsOver (codeIn (now (f .entry)) s) (now (out .entry)) ⌝ }
 {
@@ -188,7 +188,7 @@ fn units_under(f: &[u8], s: Spot, out: &mut [u16]) -> MaybeCount
         header::frame_of(h, 0),
         s.place as usize,
     ) {
-        CodeAnswer::Refused(r) => MaybeCount::Refused(r),
+        CodeAnswer::Refused(r) => MaybeCountAnswer::Refused(r),
         CodeAnswer::Got(o) => {
             let head = o.head;
             units_into(f, s, head.units, out)
@@ -197,13 +197,13 @@ fn units_under(f: &[u8], s: Spot, out: &mut [u16]) -> MaybeCount
 }
 
 // Its units in a lent output: how many; 19, writing nothing, where the output is shorter.
-pub fn units(f: &[u8], c: u32, list: u32, k: u32, out: &mut [u16]) -> MaybeCount
-    ensures answer { λ r. ⌜ maybe-count r ≡ unitsOf (now (f .entry)) c list k (length (now (out .entry))) ⌝ }
+pub fn units(f: &[u8], c: u32, list: u32, k: u32, out: &mut [u16]) -> MaybeCountAnswer
+    ensures answer { λ r. ⌜ maybe-count r ≡ methodUnits (now (f .entry)) c list k (length (now (out .entry))) ⌝ }
     ensures content { λ r. ⌜ now (out .exit) ≡ unitsContent (now (f .entry)) c list k (now (out .entry)) ⌝ }
 {
     match class_readers::method_spot(f, c, list, k) {
-        SpotAnswer::Refused(r) => MaybeCount::Refused(r),
-        SpotAnswer::Absent => MaybeCount::Absent,
+        SpotAnswer::Refused(r) => MaybeCountAnswer::Refused(r),
+        SpotAnswer::Absent => MaybeCountAnswer::Absent,
         SpotAnswer::Got(s) => units_under(f, s, out),
     }
 }

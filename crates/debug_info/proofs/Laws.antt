@@ -21,15 +21,15 @@ use Rattle.refusal.proofs.Choose.{Choosing, choosing-first, choosing-next, choo
 use Rattle.leb128.specs.Leb.{ulebAt}
 use Rattle.leb128.proofs.Laws.{on-leb, on-plus-one, uleb-span, plus-one-span}
 use Rattle.leb128.proofs.Exactly.{uleb-exact, plus-one-exact}
-use Rattle.debug_info.specs.Debug.{named, nameAt, opcodeAt, programAt, Debug, debugAt, Extent, extentAt, nameOf, keptNames, zeroAt, Held, bodyAt, keptAt}
+use Rattle.debug_info.specs.Debug.{named, nameAt, opcodeAt, programAt, Debug, debugAt, Extent, extentAt, nameOf, keptNames, zeroAt, Held, bodyAt, keptDebugAt}
 use Rattle.debug_info.specs.Rules.{NameRule}
-use Rattle.debug_info.specs.Answers.{name-meant, found-outcome, zero-outcome, kept-outcome, debug-outcome, name-outcome}
+use Rattle.debug_info.specs.Answers.{name-meant, name-found-outcome, zero-outcome, kept-debug-outcome, debug-outcome, name-outcome}
 use Rattle.debug_info.specs.declared.Name.{Name}
-use Rattle.debug_info.specs.declared.NameFound.{NameFound}
-use Rattle.debug_info.specs.declared.NameFound.the-variants as F
-use Rattle.debug_info.specs.declared.Zero.{Zero}
-use Rattle.debug_info.specs.declared.Zero.the-variants as Z
-use Rattle.debug_info.specs.declared.KeptAnswer.{KeptAnswer}
+use Rattle.debug_info.specs.declared.NameFoundAnswer.{NameFoundAnswer}
+use Rattle.debug_info.specs.declared.NameFoundAnswer.the-variants as F
+use Rattle.debug_info.specs.declared.ZeroAnswer.{ZeroAnswer}
+use Rattle.debug_info.specs.declared.ZeroAnswer.the-variants as Z
+use Rattle.debug_info.specs.declared.KeptDebugAnswer.{KeptDebugAnswer}
 use Rattle.debug_info.specs.declared.DebugAnswer.{DebugAnswer}
 use Rattle.debug_info.specs.declared.NameAnswer.{NameAnswer}
 use Rattle.debug_info.proofs.Exactly.{program-exact, debug-exact}
@@ -56,17 +56,17 @@ pub names-first : (s : List ℕ) (strings item from count k : ℕ) (kept : Name)
 names-first s strings item from count k kept e = record { choosing = rw e (choosing-first (nameAt s strings item) count from none k); sum = omega arith }
 
 module _ {s : List ℕ} {strings item from count k left p i : ℕ} {kept : Name} (h : Names s strings item from count k left p i kept) where
-  pub names-next : {x : NameFound} {a new : Name} {n : ℕ} → 0 < left → found-outcome x ≡ nameAt s strings item p → x ≡ F.Got a n → new ≡ cond (eqb i k) a kept
+  pub names-next : {x : NameFoundAnswer} {a new : Name} {n : ℕ} → 0 < left → name-found-outcome x ≡ nameAt s strings item p → x ≡ F.Got a n → new ≡ cond (eqb i k) a kept
       → Names s strings item from count k (left - 1) n (i + 1) new
-  names-next {x} {a} {new} {n} l e t w = record { choosing = choosing-next (h .choosing) l (sym (ap found-outcome t) ∙ e) (ap name-meant w ∙ go (eqb i k)); sum = let z = h .sum in omega arith }
+  names-next {x} {a} {new} {n} l e t w = record { choosing = choosing-next (h .choosing) l (sym (ap name-found-outcome t) ∙ e) (ap name-meant w ∙ go (eqb i k)); sum = let z = h .sum in omega arith }
     where
       go : (b : Bool) → name-meant (cond b a kept) ≡ cond b (name-meant a) (name-meant kept)
       go true = refl
       go false = refl
 
-  pub names-stop : {x : NameFound} {r : Refusal} → 0 < left → found-outcome x ≡ nameAt s strings item p → x ≡ F.Refused r → refused r ≡ keptNames s strings item from count k
+  pub names-stop : {x : NameFoundAnswer} {r : Refusal} → 0 < left → name-found-outcome x ≡ nameAt s strings item p → x ≡ F.Refused r → refused r ≡ keptNames s strings item from count k
   unfolding keptNames
-  names-stop l e t = choosing-stop (h .choosing) l (sym (ap found-outcome t) ∙ e)
+  names-stop l e t = choosing-stop (h .choosing) l (sym (ap name-found-outcome t) ∙ e)
 
   pub names-done : left ≤ 0 → answer (record { item = name-meant kept; next = p }) ≡ keptNames s strings item from count k
   unfolding keptNames
@@ -109,15 +109,15 @@ module _ {s : List ℕ} {item start p : ℕ} (h : Head s item start p) where
       go (suc n) e = sym (bind-refused past (sym (ending-stop e (omega arith) (fails _ (le-ltb p (length s) i)))))
 
 -- ---- calls, by the arm that was taken
-pub on-found : {B : Type 0} {x c : NameFound} {o : Outcome (Found (Option ℕ) ℕ)} {y : Outcome B} (k : Found (Option ℕ) ℕ → Outcome B)
-    → found-outcome x ≡ o → x ≡ c → y ≡ (found-outcome c >>= k) → y ≡ (o >>= k)
-on-found = said found-outcome
+pub on-found : {B : Type 0} {x c : NameFoundAnswer} {o : Outcome (Found (Option ℕ) ℕ)} {y : Outcome B} (k : Found (Option ℕ) ℕ → Outcome B)
+    → name-found-outcome x ≡ o → x ≡ c → y ≡ (name-found-outcome c >>= k) → y ≡ (o >>= k)
+on-found = said name-found-outcome
 
-pub on-zero : {B : Type 0} {x c : Zero} {o : Outcome ℕ} {y : Outcome B} (k : ℕ → Outcome B) → zero-outcome x ≡ o → x ≡ c → y ≡ (zero-outcome c >>= k) → y ≡ (o >>= k)
+pub on-zero : {B : Type 0} {x c : ZeroAnswer} {o : Outcome ℕ} {y : Outcome B} (k : ℕ → Outcome B) → zero-outcome x ≡ o → x ≡ c → y ≡ (zero-outcome c >>= k) → y ≡ (o >>= k)
 on-zero = said zero-outcome
 
-pub on-kept : {B : Type 0} {x c : KeptAnswer} {o : Outcome Held} {y : Outcome B} (k : Held → Outcome B) → kept-outcome x ≡ o → x ≡ c → y ≡ (kept-outcome c >>= k) → y ≡ (o >>= k)
-on-kept = said kept-outcome
+pub on-kept : {B : Type 0} {x c : KeptDebugAnswer} {o : Outcome Held} {y : Outcome B} (k : Held → Outcome B) → kept-debug-outcome x ≡ o → x ≡ c → y ≡ (kept-debug-outcome c >>= k) → y ≡ (o >>= k)
+on-kept = said kept-debug-outcome
 
 pub on-debug : {B : Type 0} {x c : DebugAnswer} {o : Outcome Extent} {y : Outcome B} (k : Extent → Outcome B) → debug-outcome x ≡ o → x ≡ c → y ≡ (debug-outcome c >>= k) → y ≡ (o >>= k)
 on-debug = said debug-outcome
@@ -126,7 +126,7 @@ pub on-name : {B : Type 0} {x c : NameAnswer} {o : Outcome (Option ℕ)} {y : Ou
 on-name = said name-outcome
 
 -- a program's zero byte is not before its start
-pub zero-after : (s : List ℕ) (item p : ℕ) {x : Zero} {z : ℕ} → zero-outcome x ≡ zeroAt s item p → x ≡ Z.Got z → p ≤ z
+pub zero-after : (s : List ℕ) (item p : ℕ) {x : ZeroAnswer} {z : ℕ} → zero-outcome x ≡ zeroAt s item p → x ≡ Z.Got z → p ≤ z
 unfolding zeroAt
 zero-after s item p {x} {z} e t =
     let r = past-answer (programAt s item p) (sym (ap zero-outcome t) ∙ e) in
@@ -166,18 +166,18 @@ module _ (s : List ℕ) (strings item : ℕ) where
           let long : length (z .item) ≡ z .next - ns .next = omega arith in
           λ i. answer (record { line = line; names = size i; name = getD (ns .item) k none; start = ns .next; length = long i })
 
-  pub kept-whole : (k : ℕ) → keptAt s strings item k ≡ (debugAt s strings item >>= holding k)
-  unfolding keptAt debugAt
+  pub kept-whole : (k : ℕ) → keptDebugAt s strings item k ≡ (debugAt s strings item >>= holding k)
+  unfolding keptDebugAt debugAt
   kept-whole k =
       sym (bind-assoc (ulebAt s item item) _ (holding k)
       ∙ (λ i. ulebAt s item item >>= λ (l : Found ℕ ℕ). (bind-assoc (ulebAt s item (l .next)) _ (holding k) ∙ (λ j. ulebAt s item (l .next) >>= λ (n : Found ℕ ℕ). bodied k (l .item) (n .item) (n .next) j)) i))
 
   -- the two readings from what is kept
-  pub extent-by : {y : Outcome Extent} → y ≡ (keptAt s strings item 0 >>= λ (h : Held). answer (record { line = h .line; names = h .names; start = h .start; length = h .length })) → y ≡ extentAt s strings item
+  pub extent-by : {y : Outcome Extent} → y ≡ (keptDebugAt s strings item 0 >>= λ (h : Held). answer (record { line = h .line; names = h .names; start = h .start; length = h .length })) → y ≡ extentAt s strings item
   unfolding extentAt _>>=_
   extent-by e = e ∙ ap (λ (o : Outcome Held). o >>= λ (h : Held). answer (record { line = h .line; names = h .names; start = h .start; length = h .length })) (kept-whole 0) ∙ bind-assoc (debugAt s strings item) (holding 0) _
 
-  pub name-by : (k : ℕ) {y : Outcome (Option ℕ)} → y ≡ (keptAt s strings item k >>= λ (h : Held). given (ltb k (h .names)) 7 0 (answer (h .name))) → y ≡ nameOf s strings item k
+  pub name-by : (k : ℕ) {y : Outcome (Option ℕ)} → y ≡ (keptDebugAt s strings item k >>= λ (h : Held). given (ltb k (h .names)) 7 0 (answer (h .name))) → y ≡ nameOf s strings item k
   unfolding nameOf _>>=_
   name-by k e = e ∙ ap (λ (o : Outcome Held). o >>= λ (h : Held). given (ltb k (h .names)) 7 0 (answer (h .name))) (kept-whole k) ∙ bind-assoc (debugAt s strings item) (holding k) _
 

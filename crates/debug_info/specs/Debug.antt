@@ -83,8 +83,8 @@ bodyAt s strings item line from count k = do
   z ← zeroAt s item (n .next)
   answer (record { line = line; names = count; name = n .item; start = n .next; length = z - n .next })
 
-unfoldable pub keptAt : List ℕ → ℕ → ℕ → ℕ → Outcome Held
-keptAt s strings item k = do
+unfoldable pub keptDebugAt : List ℕ → ℕ → ℕ → ℕ → Outcome Held
+keptDebugAt s strings item k = do
   l ← ulebAt s item item
   n ← ulebAt s item (l .next)
   bodyAt s strings item (l .item) (n .next) (n .item) k

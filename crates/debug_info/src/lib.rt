@@ -1,12 +1,12 @@
 // Debug information: a starting line, parameter names, and a line program.
 // `s` ends where the data section ends, `item` is the place of the debug information.
-use leb128::Leb;
-use leb128::PlusOne;
+use leb128::LebAnswer;
+use leb128::PlusOneAnswer;
 use refusal::Refusal;
 ghost use mathlib.Core.Path.{_≡_};
 ghost use mathlib.Core.Bool.{cond};
-ghost use Rattle.debug_info.specs.Debug.{named, nameAt, keptNames, zeroAt, bodyAt, keptAt, extentAt, nameOf};
-ghost use Rattle.debug_info.specs.Answers.{name-meant, found-outcome, zero-outcome, kept-outcome, debug-outcome, name-outcome};
+ghost use Rattle.debug_info.specs.Debug.{named, nameAt, keptNames, zeroAt, bodyAt, keptDebugAt, extentAt, nameOf};
+ghost use Rattle.debug_info.specs.Answers.{name-meant, name-found-outcome, zero-outcome, kept-debug-outcome, debug-outcome, name-outcome};
 
 // A parameter's name: none, or the number of a string.
 pub enum Name {
@@ -15,19 +15,19 @@ pub enum Name {
 }
 
 // A name as it is read, and the place after it.
-pub enum NameFound {
+pub enum NameFoundAnswer {
     Got { name: Name, next: usize },
     Refused(Refusal),
 }
 
 // The place of the zero byte that ends a line program.
-pub enum Zero {
+pub enum ZeroAnswer {
     Got(usize),
     Refused(Refusal),
 }
 
 // The whole, with one name kept.
-pub enum KeptAnswer {
+pub enum KeptDebugAnswer {
     Got {
         line: u32,
         names: u32,
@@ -55,23 +55,23 @@ pub enum NameAnswer {
 }
 
 // A name where it stands: 11 where it is a string that is not there.
-fn name_found(s: &[u8], strings: u32, item: usize, at: usize) -> NameFound
-    ensures { λ r. ⌜ found-outcome r ≡ nameAt (now (s .entry)) strings item at ⌝ }
+fn name_found(s: &[u8], strings: u32, item: usize, at: usize) -> NameFoundAnswer
+    ensures { λ r. ⌜ name-found-outcome r ≡ nameAt (now (s .entry)) strings item at ⌝ }
 {
     match leb128::uleb_p1(s, at, item) {
-        PlusOne::Refused(r) => NameFound::Refused(r),
-        PlusOne::Absent { next } => NameFound::Got {
+        PlusOneAnswer::Refused(r) => NameFoundAnswer::Refused(r),
+        PlusOneAnswer::Absent { next } => NameFoundAnswer::Got {
             name: Name::Absent,
             next,
         },
-        PlusOne::Got { value, next } => {
+        PlusOneAnswer::Got { value, next } => {
             if value < strings {
-                return NameFound::Got {
+                return NameFoundAnswer::Got {
                     name: Name::Given(value),
                     next,
                 };
             }
-            NameFound::Refused(Refusal {
+            NameFoundAnswer::Refused(Refusal {
                 number: 11,
                 place: item,
             })
@@ -90,8 +90,8 @@ fn newer(asked: bool, new: Name, old: Name) -> Name
 }
 
 // All names, of which number k is kept.
-fn names_at(s: &[u8], strings: u32, item: usize, from: usize, count: u32, k: u32) -> NameFound
-    ensures { λ r. ⌜ found-outcome r ≡ keptNames (now (s .entry)) strings item from count k ⌝ }
+fn names_at(s: &[u8], strings: u32, item: usize, from: usize, count: u32, k: u32) -> NameFoundAnswer
+    ensures { λ r. ⌜ name-found-outcome r ≡ keptNames (now (s .entry)) strings item from count k ⌝ }
 {
     let mut p = from;
     let mut kept = Name::Absent;
@@ -99,10 +99,10 @@ fn names_at(s: &[u8], strings: u32, item: usize, from: usize, count: u32, k: u32
     let mut left = count;
     while 0 < left {
         match name_found(s, strings, item, p) {
-            NameFound::Refused(r) => {
-                return NameFound::Refused(r);
+            NameFoundAnswer::Refused(r) => {
+                return NameFoundAnswer::Refused(r);
             }
-            NameFound::Got { name, next } => {
+            NameFoundAnswer::Got { name, next } => {
                 kept = newer(i == k, name, kept);
                 p = next;
             }
@@ -110,14 +110,14 @@ fn names_at(s: &[u8], strings: u32, item: usize, from: usize, count: u32, k: u32
         i += 1;
         left -= 1;
     }
-    NameFound::Got {
+    NameFoundAnswer::Got {
         name: kept,
         next: p,
     }
 }
 
 // The first zero byte from `start` on.
-fn zero_at(s: &[u8], item: usize, start: usize) -> Zero
+fn zero_at(s: &[u8], item: usize, start: usize) -> ZeroAnswer
     ensures { λ r. ⌜ zero-outcome r ≡ zeroAt (now (s .entry)) item start ⌝ }
 {
     let mut p = start;
@@ -126,9 +126,9 @@ fn zero_at(s: &[u8], item: usize, start: usize) -> Zero
             p += 1;
             continue;
         }
-        return Zero::Got(p);
+        return ZeroAnswer::Got(p);
     }
-    Zero::Refused(Refusal {
+    ZeroAnswer::Refused(Refusal {
         number: 9,
         place: item,
     })
@@ -143,14 +143,14 @@ fn body_at(
     from: usize,
     count: u32,
     k: u32,
-) -> KeptAnswer
-    ensures { λ r. ⌜ kept-outcome r ≡ bodyAt (now (s .entry)) strings item line from count k ⌝ }
+) -> KeptDebugAnswer
+    ensures { λ r. ⌜ kept-debug-outcome r ≡ bodyAt (now (s .entry)) strings item line from count k ⌝ }
 {
     match names_at(s, strings, item, from, count, k) {
-        NameFound::Refused(r) => KeptAnswer::Refused(r),
-        NameFound::Got { name, next } => match zero_at(s, item, next) {
-            Zero::Refused(r) => KeptAnswer::Refused(r),
-            Zero::Got(zero) => KeptAnswer::Got {
+        NameFoundAnswer::Refused(r) => KeptDebugAnswer::Refused(r),
+        NameFoundAnswer::Got { name, next } => match zero_at(s, item, next) {
+            ZeroAnswer::Refused(r) => KeptDebugAnswer::Refused(r),
+            ZeroAnswer::Got(zero) => KeptDebugAnswer::Got {
                 line,
                 names: count,
                 name,
@@ -162,14 +162,14 @@ fn body_at(
 }
 
 // The whole, of which name k is kept.
-fn kept_at(s: &[u8], strings: u32, item: usize, k: u32) -> KeptAnswer
-    ensures { λ r. ⌜ kept-outcome r ≡ keptAt (now (s .entry)) strings item k ⌝ }
+fn kept_at(s: &[u8], strings: u32, item: usize, k: u32) -> KeptDebugAnswer
+    ensures { λ r. ⌜ kept-debug-outcome r ≡ keptDebugAt (now (s .entry)) strings item k ⌝ }
 {
     match leb128::uleb(s, item, item) {
-        Leb::Refused(r) => KeptAnswer::Refused(r),
-        Leb::Got { value: line, next } => match leb128::uleb(s, next, item) {
-            Leb::Refused(r) => KeptAnswer::Refused(r),
-            Leb::Got {
+        LebAnswer::Refused(r) => KeptDebugAnswer::Refused(r),
+        LebAnswer::Got { value: line, next } => match leb128::uleb(s, next, item) {
+            LebAnswer::Refused(r) => KeptDebugAnswer::Refused(r),
+            LebAnswer::Got {
                 value: count,
                 next: from,
             } => body_at(s, strings, item, line, from, count, k),
@@ -182,8 +182,8 @@ pub fn debug_at(s: &[u8], strings: u32, item: usize) -> DebugAnswer
     ensures { λ r. ⌜ debug-outcome r ≡ extentAt (now (s .entry)) strings item ⌝ }
 {
     match kept_at(s, strings, item, 0) {
-        KeptAnswer::Refused(r) => DebugAnswer::Refused(r),
-        KeptAnswer::Got {
+        KeptDebugAnswer::Refused(r) => DebugAnswer::Refused(r),
+        KeptDebugAnswer::Got {
             line,
             names,
             name: _,
@@ -203,8 +203,8 @@ pub fn name_at(s: &[u8], strings: u32, item: usize, k: u32) -> NameAnswer
     ensures { λ r. ⌜ name-outcome r ≡ nameOf (now (s .entry)) strings item k ⌝ }
 {
     match kept_at(s, strings, item, k) {
-        KeptAnswer::Refused(r) => NameAnswer::Refused(r),
-        KeptAnswer::Got {
+        KeptDebugAnswer::Refused(r) => NameAnswer::Refused(r),
+        KeptDebugAnswer::Got {
             line: _,
             names,
             name,

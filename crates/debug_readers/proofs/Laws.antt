@@ -22,10 +22,10 @@ use Rattle.debug_info.specs.Debug.{Debug, debugAt, Extent, extentAt, nameOf}
 use Rattle.debug_info.specs.Answers.{debug-outcome, name-outcome}
 use Rattle.debug_info.proofs.Exactly.{debug-exact}
 use Rattle.class_readers.specs.declared.Spot.{Spot}
-use Rattle.debug_readers.specs.declared.MaybeDebug.{MaybeDebug}
-use Rattle.debug_readers.specs.declared.MaybeDebug.the-variants.{Absent, Got, Refused}
+use Rattle.debug_readers.specs.declared.MaybeDebugAnswer.{MaybeDebugAnswer}
+use Rattle.debug_readers.specs.declared.MaybeDebugAnswer.the-variants.{Absent, Got, Refused}
 use Rattle.class_readers.specs.Spots.{onward, debugSpot}
-use Rattle.debug_readers.specs.Debug.{wholeUnder, debugWhole, extentUnder, debugOf, programOf, lineProgram}
+use Rattle.debug_readers.specs.Debug.{wholeUnder, debugWhole, extentUnder, methodDebug, programOf, lineProgram}
 use Rattle.debug_readers.specs.Answers.{maybe-debug}
 
 -- ---- debug information that was read in the file up to the data section's end, s
@@ -79,8 +79,8 @@ module _ (f : List ℕ) (c list k : ℕ) where
       go (refused r) = tt
 
   -- what is handed out is of the whole
-  of-whole : debugOf f c list k ≡ (debugWhole f c list k >>= onward handed)
-  unfolding debugOf extentUnder extentAt debugWhole wholeUnder onward _>>=_
+  of-whole : methodDebug f c list k ≡ (debugWhole f c list k >>= onward handed)
+  unfolding methodDebug extentUnder extentAt debugWhole wholeUnder onward _>>=_
   of-whole = go (debugSpot f c list k)
     where
       under : (o : Outcome Debug) → ((o >>= λ (d : Debug). answer (record { line = d .line; names = length (d .names); start = d .start; length = length (d .program) })) >>= λ (e : Extent). answer (some e))
@@ -104,7 +104,7 @@ module _ (f : List ℕ) (c list k : ℕ) where
   shown (answer (some e)) = e
   shown (refused r) = record { line = 0; names = 0; start = 0; length = 0 }
 
-  module _ {x : MaybeDebug} (e : maybe-debug x ≡ debugOf f c list k) where
+  module _ {x : MaybeDebugAnswer} (e : maybe-debug x ≡ methodDebug f c list k) where
     pub program-refused : {r : Refusal} → x ≡ Refused r → [] ≡ lineProgram f c list k
     unfolding lineProgram programOf onward _>>=_
     program-refused {r} t = go (debugWhole f c list k) (sym (ap maybe-debug t) ∙ e ∙ of-whole)

@@ -23,8 +23,8 @@ extentUnder f s = do
   e ← D.extentAt (section f (s .header)) (s .header .strings .count) (s .place)
   answer (some e)
 
-unfoldable pub debugOf : List ℕ → ℕ → ℕ → ℕ → Outcome (Option D.Extent)
-debugOf f c list k = debugSpot f c list k >>= onward (extentUnder f)
+unfoldable pub methodDebug : List ℕ → ℕ → ℕ → ℕ → Outcome (Option D.Extent)
+methodDebug f c list k = debugSpot f c list k >>= onward (extentUnder f)
 
 -- name p: a string's number, or no name
 unfoldable pub nameUnder : List ℕ → ℕ → Spot → Outcome (Option (Option ℕ))

@@ -9,7 +9,7 @@ pub use lines::debug_parameter;
 pub use lines::line_program;
 
 // The starting line, how many names, and where the line program lies, without its zero byte.
-pub enum MaybeDebug {
+pub enum MaybeDebugAnswer {
     Absent,
     Got {
         line: u32,
@@ -20,7 +20,7 @@ pub enum MaybeDebug {
     Refused(Refusal),
 }
 
-pub enum MaybeName {
+pub enum MaybeNameAnswer {
     Absent,
     Got(Name),
     Refused(Refusal),

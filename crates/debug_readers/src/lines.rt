@@ -6,22 +6,22 @@ use class_readers::SpotAnswer;
 use debug_info::DebugAnswer;
 use debug_info::NameAnswer;
 ghost use mathlib.Core.Path.{_≡_};
-ghost use Rattle.debug_readers.specs.Debug.{extentUnder, debugOf, nameUnder, parameterName, lineProgram};
+ghost use Rattle.debug_readers.specs.Debug.{extentUnder, methodDebug, nameUnder, parameterName, lineProgram};
 ghost use Rattle.debug_readers.specs.Answers.{maybe-debug, maybe-name};
 
-fn extent_under(f: &[u8], s: Spot) -> MaybeDebug
+fn extent_under(f: &[u8], s: Spot) -> MaybeDebugAnswer
     ensures { λ r. ⌜ maybe-debug r ≡ extentUnder (now (f .entry)) s ⌝ }
 {
     let h = s.header;
     let strings = h.strings;
     match debug_info::debug_at(header::section_of(f, h), strings.count, s.place as usize) {
-        DebugAnswer::Refused(r) => MaybeDebug::Refused(r),
+        DebugAnswer::Refused(r) => MaybeDebugAnswer::Refused(r),
         DebugAnswer::Got {
             line,
             names,
             start,
             length,
-        } => MaybeDebug::Got {
+        } => MaybeDebugAnswer::Got {
             line,
             names,
             start,
@@ -31,34 +31,34 @@ fn extent_under(f: &[u8], s: Spot) -> MaybeDebug
 }
 
 // The starting line of the code of method k of a list of class c, how many names, and where the line program lies.
-pub fn debug(f: &[u8], c: u32, list: u32, k: u32) -> MaybeDebug
-    ensures { λ r. ⌜ maybe-debug r ≡ debugOf (now (f .entry)) c list k ⌝ }
+pub fn debug(f: &[u8], c: u32, list: u32, k: u32) -> MaybeDebugAnswer
+    ensures { λ r. ⌜ maybe-debug r ≡ methodDebug (now (f .entry)) c list k ⌝ }
 {
     match class_readers::debug_spot(f, c, list, k) {
-        SpotAnswer::Refused(r) => MaybeDebug::Refused(r),
-        SpotAnswer::Absent => MaybeDebug::Absent,
+        SpotAnswer::Refused(r) => MaybeDebugAnswer::Refused(r),
+        SpotAnswer::Absent => MaybeDebugAnswer::Absent,
         SpotAnswer::Got(s) => extent_under(f, s),
     }
 }
 
-fn name_under(f: &[u8], s: Spot, p: u32) -> MaybeName
+fn name_under(f: &[u8], s: Spot, p: u32) -> MaybeNameAnswer
     ensures { λ r. ⌜ maybe-name r ≡ nameUnder (now (f .entry)) p s ⌝ }
 {
     let h = s.header;
     let strings = h.strings;
     match debug_info::name_at(header::section_of(f, h), strings.count, s.place as usize, p) {
-        NameAnswer::Refused(r) => MaybeName::Refused(r),
-        NameAnswer::Got(name) => MaybeName::Got(name),
+        NameAnswer::Refused(r) => MaybeNameAnswer::Refused(r),
+        NameAnswer::Got(name) => MaybeNameAnswer::Got(name),
     }
 }
 
 // The name of parameter p: absent without debug information, else a string's number or no name.
-pub fn debug_parameter(f: &[u8], c: u32, list: u32, k: u32, p: u32) -> MaybeName
+pub fn debug_parameter(f: &[u8], c: u32, list: u32, k: u32, p: u32) -> MaybeNameAnswer
     ensures { λ r. ⌜ maybe-name r ≡ parameterName (now (f .entry)) c list k p ⌝ }
 {
     match class_readers::debug_spot(f, c, list, k) {
-        SpotAnswer::Refused(r) => MaybeName::Refused(r),
-        SpotAnswer::Absent => MaybeName::Absent,
+        SpotAnswer::Refused(r) => MaybeNameAnswer::Refused(r),
+        SpotAnswer::Absent => MaybeNameAnswer::Absent,
         SpotAnswer::Got(s) => name_under(f, s, p),
     }
 }
@@ -68,9 +68,9 @@ pub fn line_program(f: &[u8], c: u32, list: u32, k: u32) -> &[u8]
     ensures { λ r. ⌜ now r ≡ lineProgram (now (f .entry)) c list k ⌝ }
 {
     match debug(f, c, list, k) {
-        MaybeDebug::Refused(_) => &f[0..0],
-        MaybeDebug::Absent => &f[0..0],
-        MaybeDebug::Got {
+        MaybeDebugAnswer::Refused(_) => &f[0..0],
+        MaybeDebugAnswer::Absent => &f[0..0],
+        MaybeDebugAnswer::Got {
             line: _,
             names: _,
             start,

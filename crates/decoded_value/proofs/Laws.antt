@@ -22,24 +22,24 @@ use Rattle.refusal.proofs.Laws.{said, bind-answer, bind-refused}
 use Rattle.refusal.proofs.Exact.{equal, at-most, one-of}
 use Rattle.refusal.proofs.Rows.{past-answer, past-refused}
 use Rattle.value_heads.specs.declared.Walk.{Walk}
-use Rattle.encoded_value.specs.declared.Step.{Step}
-use Rattle.encoded_value.specs.declared.Step.the-variants as S
-use Rattle.value_heads.specs.declared.HeadByte.{HeadByte}
-use Rattle.value_heads.specs.declared.HeadByte.the-variants as H
-use Rattle.value_heads.specs.declared.Number.{Number}
-use Rattle.value_heads.specs.declared.Number.the-variants as N
+use Rattle.encoded_value.specs.declared.StepAnswer.{StepAnswer}
+use Rattle.encoded_value.specs.declared.StepAnswer.the-variants as S
+use Rattle.value_heads.specs.declared.HeadByteAnswer.{HeadByteAnswer}
+use Rattle.value_heads.specs.declared.HeadByteAnswer.the-variants as H
+use Rattle.value_heads.specs.declared.NumberAnswer.{NumberAnswer}
+use Rattle.value_heads.specs.declared.NumberAnswer.the-variants as N
 use Rattle.value_heads.specs.Kinds.{arguments, bytes-of}
 use Rattle.value_heads.specs.Numbers.{signed, raised}
 use Rattle.encoded_value.specs.Tree.{Tree, byte, short, char, int, long, float, double, index, null, boolean, restOf, plainOf}
-use Rattle.value_heads.specs.Readings.{headAt, checkedAt}
+use Rattle.value_heads.specs.Readings.{headByteAt, checkedAt}
 use Rattle.encoded_value.specs.Readings.{plainAt, kindWith, arrayAt, annotationAt, as-array, as-annotation}
-use Rattle.value_heads.specs.Answers.{head-outcome, number-outcome, Small}
+use Rattle.value_heads.specs.Answers.{head-byte-outcome, number-outcome, Small}
 use Rattle.encoded_value.specs.Answers.{step-outcome}
 use Rattle.value_heads.proofs.Numbers.{size-some, size-most}
 use Rattle.value_heads.proofs.Laws.{head-there, after-head}
 use Rattle.encoded_value.proofs.Cycle.{value-kind, no-value, kind-array, kind-annotation, kind-plain}
 use Rattle.encoded_value.proofs.Bounds.{array-ends, annotation-ends}
-use Rattle.decoded_value.specs.declared.Decoded.{Decoded}
+use Rattle.decoded_value.specs.declared.DecodedAnswer.{DecodedAnswer}
 use Rattle.decoded_value.specs.Shown.{Shown, is, floating, body, shown}
 use Rattle.decoded_value.specs.Sizes.{Sized, Fitting}
 use Rattle.decoded_value.specs.Readings.{read-out, decodedAt, decodedArray, decodedAnnotation, decoded-outcome}
@@ -185,7 +185,7 @@ pub float-by : (f : Format) (k : ℕ) {b r : ℕ} {v : Float} → b ≡ r → v 
 float-by f k e h = λ i. is k (floating (e i) ((h ∙ ap (ofBits f) e) i))
 
 -- ---- a nested body, behind its head byte at p
-module _ (s : List ℕ) (w : Walk) (left p : ℕ) {x : Step} where
+module _ (s : List ℕ) (w : Walk) (left p : ℕ) {x : StepAnswer} where
   module _ (e : step-outcome x ≡ (arrayAt s w left (p + 1) >>= past)) where
     module _ {q : ℕ} (t : x ≡ S.Next q) where
       pub array-after : p ≤ q
@@ -227,7 +227,7 @@ module _ (s : List ℕ) (w : Walk) (left p : ℕ) {x : Step} where
     annotation-unread t = sym (bind-refused read-out (bind-refused (as-annotation (p + 1)) (sym (past-refused (annotationAt s w left (p + 1)) (sym (ap step-outcome t) ∙ e)))))
 
 -- ---- a value
-module _ (s : List ℕ) (w : Walk) (left p : ℕ) {x : HeadByte} (e : head-outcome x ≡ headAt s (w .item) p) where
+module _ (s : List ℕ) (w : Walk) (left p : ℕ) {x : HeadByteAnswer} (e : head-byte-outcome x ≡ headByteAt s (w .item) p) where
   pub value-unread : {r : Refusal} → x ≡ H.Refused r → refused r ≡ decodedAt s w left p
   unfolding decodedAt
   value-unread t = sym (bind-refused read-out (no-value s w left p e t))
@@ -250,22 +250,22 @@ module _ (s : List ℕ) (w : Walk) (left p : ℕ) {x : HeadByte} (e : head-outco
       plain-is : decodedAt s w left p ≡ (plainAt s w h (p + 1) >>= read-out)
       plain-is = kind-is ∙ ap (λ (o : Outcome (Found Tree ℕ)). o >>= read-out) (kind-plain s w (arrayAt s w left) (annotationAt s w left) h (p + 1) n m)
 
-      pub plain-unread : {z : Number} {r : Refusal} → number-outcome z ≡ checkedAt s w h (p + 1) → z ≡ N.Refused r → refused r ≡ decodedAt s w left p
+      pub plain-unread : {z : NumberAnswer} {r : Refusal} → number-outcome z ≡ checkedAt s w h (p + 1) → z ≡ N.Refused r → refused r ≡ decodedAt s w left p
       unfolding plainAt
       plain-unread f u = sym (plain-is ∙ bind-refused read-out (bind-refused _ (sym (sym (ap number-outcome u) ∙ f))))
 
-      pub plain-read : {z : Number} {v q : ℕ} {y : Shown} → number-outcome z ≡ checkedAt s w h (p + 1) → z ≡ N.Got v q → y ≡ shown (plainOf (h % 32) (h / 32) v) → answer (record { item = y; next = q }) ≡ decodedAt s w left p
+      pub plain-read : {z : NumberAnswer} {v q : ℕ} {y : Shown} → number-outcome z ≡ checkedAt s w h (p + 1) → z ≡ N.Got v q → y ≡ shown (plainOf (h % 32) (h / 32) v) → answer (record { item = y; next = q }) ≡ decodedAt s w left p
       unfolding plainAt
       plain-read {q = q} f u k = ap (λ (c : Shown). answer (record { item = c; next = q })) k ∙ sym (plain-is ∙ bind-answer read-out (bind-answer _ (sym (sym (ap number-outcome u) ∙ f))))
 
     pub head-room : p < length s
     head-room = head-there s (w .item) p e t .room
 
-    pub fitting : {z : Number} {v q : ℕ} → Small h z → z ≡ N.Got v q → Fitting h v
+    pub fitting : {z : NumberAnswer} {v q : ℕ} → Small h z → z ≡ N.Got v q → Fitting h v
     fitting k u = record { known = head-there s (w .item) p e t .known; small = k .small u }
 
 -- ---- a call's answer, by the arm that was taken
-pub on-decoded : {B : Type 0} {x c : Decoded} {o : Outcome (Found Shown ℕ)} {y : Outcome B} (k : Found Shown ℕ → Outcome B)
+pub on-decoded : {B : Type 0} {x c : DecodedAnswer} {o : Outcome (Found Shown ℕ)} {y : Outcome B} (k : Found Shown ℕ → Outcome B)
     → decoded-outcome x ≡ o → x ≡ c → y ≡ (decoded-outcome c >>= k) → y ≡ (o >>= k)
 on-decoded = said decoded-outcome
 

@@ -10,7 +10,7 @@ use Rattle.refusal.proofs.Laws.{one-to-one}
 use Rattle.decoded_value.specs.Shown.{Content, integer, natural, floating, row-number, body, nothing, truth, Shown, value-shown}
 use Rattle.decoded_value.specs.Readings.{decoded-outcome}
 use Rattle.decoded_value.specs.declared.Value as Code
-use Rattle.decoded_value.specs.declared.Decoded as D
+use Rattle.decoded_value.specs.declared.DecodedAnswer as D
 
 -- the value of a kind with its content
 by-kind : ℕ → Content → Code.Value
@@ -51,14 +51,14 @@ value-back-told = value-told
 pub value-once : (x y : Code.Value) → value-shown x ≡ value-shown y → x ≡ y
 value-once x y e = sym (value-back-told x) ∙ ap value-back e ∙ value-back-told y
 
-decoded-back : Outcome (Found Shown ℕ) → D.Decoded
+decoded-back : Outcome (Found Shown ℕ) → D.DecodedAnswer
 decoded-back (answer r) = D.the-variants.Got (value-back (r .item)) (r .next)
 decoded-back (refused r) = D.the-variants.Refused r
 
-decoded-told : (x : D.Decoded) → decoded-back (decoded-outcome x) ≡ x
+decoded-told : (x : D.DecodedAnswer) → decoded-back (decoded-outcome x) ≡ x
 unfolding decoded-back
 decoded-told (D.the-variants.Got v n) = ap (λ (u : Code.Value). D.the-variants.Got u n) (value-back-told v)
 decoded-told (D.the-variants.Refused r) = refl
 
-pub decoded-once : (x y : D.Decoded) → decoded-outcome x ≡ decoded-outcome y → x ≡ y
+pub decoded-once : (x y : D.DecodedAnswer) → decoded-outcome x ≡ decoded-outcome y → x ≡ y
 decoded-once = one-to-one decoded-outcome decoded-back decoded-told

@@ -7,7 +7,7 @@ use Rattle.value_heads.specs.declared.Walk.{Walk}
 use Rattle.encoded_value.specs.Tree.{Tree}
 use Rattle.encoded_value.specs.Readings.{valueAt, arrayAt, annotationAt, as-array, as-annotation}
 use Rattle.decoded_value.specs.Shown.{Shown, shown, value-shown}
-use Rattle.decoded_value.specs.declared.Decoded as D
+use Rattle.decoded_value.specs.declared.DecodedAnswer as D
 
 abbrev pub read-out : Found Tree ℕ → Outcome (Found Shown ℕ)
 read-out r = answer (record { item = shown (r .item); next = r .next })
@@ -24,6 +24,6 @@ unfoldable pub decodedAnnotation : List ℕ → Walk → ℕ → ℕ → Outcome
 decodedAnnotation s w left p = annotationAt s w left p >>= as-annotation p >>= read-out
 
 -- what the answer of the code says
-abbrev pub decoded-outcome : D.Decoded → Outcome (Found Shown ℕ)
+abbrev pub decoded-outcome : D.DecodedAnswer → Outcome (Found Shown ℕ)
 decoded-outcome (D.the-variants.Got v n) = answer (record { item = value-shown v; next = n })
 decoded-outcome (D.the-variants.Refused r) = refused r

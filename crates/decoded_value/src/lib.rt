@@ -1,9 +1,9 @@
 // One value read out: a kind with its number, floats included, or a nested body's offset and length in bytes. No recursion: a nested
 // body is only gone over.
-use encoded_value::Step;
+use encoded_value::StepAnswer;
 use refusal::Refusal;
-use value_heads::HeadByte;
-use value_heads::Number;
+use value_heads::HeadByteAnswer;
+use value_heads::NumberAnswer;
 use value_heads::Walk;
 ghost use mathlib.Core.Path.{_≡_};
 ghost use Prim.Native.Nat.{_+_, _*_, _^_, _%_, _/_, _≤_, _<_};
@@ -31,7 +31,7 @@ pub enum Value {
     Boolean(bool),
 }
 
-pub enum Decoded {
+pub enum DecodedAnswer {
     Got { value: Value, next: usize },
     Refused(Refusal),
 }
@@ -197,13 +197,13 @@ fn plain_of(head: u8, x: u64) -> Value
 }
 
 // A nested array behind its head byte at a place: where its body lies.
-fn array_at(s: &[u8], w: Walk, at: usize, left: u32) -> Decoded
+fn array_at(s: &[u8], w: Walk, at: usize, left: u32) -> DecodedAnswer
     requires { ⌜ at < length (now s) ⌝ }
     ensures { λ r. ⌜ decoded-outcome r ≡ decodedArray (now (s .entry)) w left (at + 1) ⌝ }
 {
     match encoded_value::array_body(s, w, at + 1, left) {
-        Step::Refused(r) => Decoded::Refused(r),
-        Step::Next(next) => Decoded::Got {
+        StepAnswer::Refused(r) => DecodedAnswer::Refused(r),
+        StepAnswer::Next(next) => DecodedAnswer::Got {
             value: Value::Array {
                 offset: at + 1,
                 length: next - at - 1,
@@ -214,13 +214,13 @@ fn array_at(s: &[u8], w: Walk, at: usize, left: u32) -> Decoded
 }
 
 // The same for a nested annotation.
-fn annotation_at(s: &[u8], w: Walk, at: usize, left: u32) -> Decoded
+fn annotation_at(s: &[u8], w: Walk, at: usize, left: u32) -> DecodedAnswer
     requires { ⌜ at < length (now s) ⌝ }
     ensures { λ r. ⌜ decoded-outcome r ≡ decodedAnnotation (now (s .entry)) w left (at + 1) ⌝ }
 {
     match encoded_value::annotation_body(s, w, at + 1, left) {
-        Step::Refused(r) => Decoded::Refused(r),
-        Step::Next(end) => Decoded::Got {
+        StepAnswer::Refused(r) => DecodedAnswer::Refused(r),
+        StepAnswer::Next(end) => DecodedAnswer::Got {
             value: Value::Annotation {
                 offset: at + 1,
                 length: end - at - 1,
@@ -231,12 +231,12 @@ fn annotation_at(s: &[u8], w: Walk, at: usize, left: u32) -> Decoded
 }
 
 // The value at a place where so many bodies may still be opened.
-pub fn decode_at(s: &[u8], w: Walk, at: usize, left: u32) -> Decoded
+pub fn decode_at(s: &[u8], w: Walk, at: usize, left: u32) -> DecodedAnswer
     ensures { λ r. ⌜ decoded-outcome r ≡ decodedAt (now (s .entry)) w left at ⌝ }
 {
     match value_heads::head_at(s, w.item, at) {
-        HeadByte::Refused(r) => Decoded::Refused(r),
-        HeadByte::Got(head) => {
+        HeadByteAnswer::Refused(r) => DecodedAnswer::Refused(r),
+        HeadByteAnswer::Got(head) => {
             let code = head % 32;
             if code == 0x1c {
                 return array_at(s, w, at, left);
@@ -245,8 +245,8 @@ pub fn decode_at(s: &[u8], w: Walk, at: usize, left: u32) -> Decoded
                 return annotation_at(s, w, at, left);
             }
             match value_heads::checked_number(s, w, at + 1, head) {
-                Number::Refused(r) => Decoded::Refused(r),
-                Number::Got { value, next } => Decoded::Got {
+                NumberAnswer::Refused(r) => DecodedAnswer::Refused(r),
+                NumberAnswer::Got { value, next } => DecodedAnswer::Got {
                     value: plain_of(head, value),
                     next,
                 },

@@ -12,10 +12,10 @@ use Rattle.header.specs.declared.Header.{Header}
 use Rattle.header.specs.Header.{section, frame-of}
 use Rattle.header.proofs.Laws.{laws as header-laws}
 use Rattle.class_ids.proofs.Laws.{laws as class-laws}
-use Rattle.annotation_directories.specs.declared.Head.{Head}
-use Rattle.annotation_directories.specs.declared.HeadAnswer.{HeadAnswer}
-use Rattle.annotation_directories.specs.Answers.{head-outcome}
-use Rattle.annotation_directories.specs.Directories.{Entry, directoryHead, directoryEntry}
+use Rattle.annotation_directories.specs.declared.DirectoryHead.{DirectoryHead}
+use Rattle.annotation_directories.specs.declared.DirectoryHeadAnswer.{DirectoryHeadAnswer}
+use Rattle.annotation_directories.specs.Answers.{directory-head-outcome}
+use Rattle.annotation_directories.specs.Directories.{DirectoryEntry, directoryHead, directoryEntry}
 use Rattle.directory_readers.specs.declared.Reached.{Reached}
 use Rattle.directory_readers.specs.declared.ReachedAnswer.{ReachedAnswer}
 use Rattle.directory_readers.specs.Answers.{reached-outcome}
@@ -26,10 +26,10 @@ on-reached = said reached-outcome
 
 -- a directory that was read in the file up to the data section's end, s, against the file's counts, r
 module _ (f : List ℕ) (h : Header) (handles item : ℕ) {s : List ℕ} {r : Frame} (e : s ≡ section f h) (g : r ≡ frame-of h handles) where
-  pub on-head : {B : Type 0} {x c : HeadAnswer} {y : Outcome B} (k : Head → Outcome B) → head-outcome x ≡ directoryHead s r item → x ≡ c → y ≡ (head-outcome c >>= k) → y ≡ (directoryHead (section f h) (frame-of h handles) item >>= k)
-  on-head k q = said head-outcome k (q ∙ (λ i. directoryHead (e i) (g i) item))
+  pub on-head : {B : Type 0} {x c : DirectoryHeadAnswer} {y : Outcome B} (k : DirectoryHead → Outcome B) → directory-head-outcome x ≡ directoryHead s r item → x ≡ c → y ≡ (directory-head-outcome c >>= k) → y ≡ (directoryHead (section f h) (frame-of h handles) item >>= k)
+  on-head k q = said directory-head-outcome k (q ∙ (λ i. directoryHead (e i) (g i) item))
 
-  pub entry-framed : (list k : ℕ) {y : Outcome Entry} → y ≡ directoryEntry s r item list k → y ≡ directoryEntry (section f h) (frame-of h handles) item list k
+  pub entry-framed : (list k : ℕ) {y : Outcome DirectoryEntry} → y ≡ directoryEntry s r item list k → y ≡ directoryEntry (section f h) (frame-of h handles) item list k
   entry-framed list k q = q ∙ (λ i. directoryEntry (e i) (g i) item list k)
 
 pub ruleset laws = (on-reached, header-laws, class-laws, calls, needs)

@@ -4,7 +4,7 @@ use mathlib.Core.Path.{_≡_, refl}
 use mathlib.Core.Option.{Option, none, some}
 use Rattle.refusal.specs.Outcome.{Outcome, answer, refused}
 use Rattle.refusal.proofs.Laws.{one-to-one}
-use Rattle.annotation_directories.specs.declared.Head.{Head}
+use Rattle.annotation_directories.specs.declared.DirectoryHead.{DirectoryHead}
 use Rattle.directory_readers.specs.declared.Reached.{Reached}
 use Rattle.directory_readers.specs.declared.ReachedAnswer as R
 use Rattle.directory_readers.specs.declared.DirectoryAnswer as D
@@ -22,7 +22,7 @@ reached-told (R.the-variants.Refused r) = refl
 pub reached-once : (x y : R.ReachedAnswer) → reached-outcome x ≡ reached-outcome y → x ≡ y
 reached-once = one-to-one reached-outcome reached-back reached-told
 
-directory-back : Outcome (Option Head) → D.DirectoryAnswer
+directory-back : Outcome (Option DirectoryHead) → D.DirectoryAnswer
 directory-back (answer (some h)) = D.the-variants.Got h
 directory-back (answer none) = D.the-variants.Absent
 directory-back (refused r) = D.the-variants.Refused r

@@ -1,15 +1,15 @@
 // The readers of the annotation directory of a class, each over a lent file: header (1 to 6), 7 for the class, its record, the directory whole, 7 for the
 // entry. A directory holds no values, so the map is not read. One piece serves the three lists: fields 0, methods 1, parameters 2.
-use annotation_directories::EntryAnswer;
-use annotation_directories::Head;
-use annotation_directories::HeadAnswer;
+use annotation_directories::DirectoryEntryAnswer;
+use annotation_directories::DirectoryHead;
+use annotation_directories::DirectoryHeadAnswer;
 use class_ids::ClassAnswer;
 use header::Header;
 use header::HeaderAnswer;
 use refusal::Refusal;
 ghost use mathlib.Core.Path.{_≡_};
-ghost use Rattle.annotation_directories.specs.Answers.{entry-outcome};
-ghost use Rattle.directory_readers.specs.Directories.{directoryIn, directoryOf, headIn, directory, entryIn, entryOf};
+ghost use Rattle.annotation_directories.specs.Answers.{directory-entry-outcome};
+ghost use Rattle.directory_readers.specs.Directories.{directoryIn, directoryOf, headIn, directory, entryIn, entryNumber};
 ghost use Rattle.directory_readers.specs.Answers.{reached-outcome, directory-outcome};
 
 // A place in a file whose header was read, 0 where nothing is there.
@@ -25,7 +25,7 @@ pub enum ReachedAnswer {
 
 // Where the class's set is (0 for none), and how many fields, methods and parameter entries there are.
 pub enum DirectoryAnswer {
-    Got(Head),
+    Got(DirectoryHead),
     Absent,
     Refused(Refusal),
 }
@@ -62,8 +62,8 @@ pub fn head_in(f: &[u8], h: Header, at: u32) -> DirectoryAnswer
             header::frame_of(h, 0),
             at as usize,
         ) {
-            HeadAnswer::Refused(r) => DirectoryAnswer::Refused(r),
-            HeadAnswer::Got(head) => DirectoryAnswer::Got(head),
+            DirectoryHeadAnswer::Refused(r) => DirectoryAnswer::Refused(r),
+            DirectoryHeadAnswer::Got(head) => DirectoryAnswer::Got(head),
         };
     }
     DirectoryAnswer::Absent
@@ -83,8 +83,8 @@ pub fn directory(f: &[u8], c: u32) -> DirectoryAnswer
 }
 
 // Entry k of a list of the directory at a place: at 0 there are none.
-pub fn entry_in(f: &[u8], h: Header, at: u32, list: u32, k: u32) -> EntryAnswer
-    ensures { λ r. ⌜ entry-outcome r ≡ entryIn (now (f .entry)) h at list k ⌝ }
+pub fn entry_in(f: &[u8], h: Header, at: u32, list: u32, k: u32) -> DirectoryEntryAnswer
+    ensures { λ r. ⌜ directory-entry-outcome r ≡ entryIn (now (f .entry)) h at list k ⌝ }
 {
     if 0 < at {
         return annotation_directories::directory_entry(
@@ -95,17 +95,17 @@ pub fn entry_in(f: &[u8], h: Header, at: u32, list: u32, k: u32) -> EntryAnswer
             k,
         );
     }
-    EntryAnswer::Refused(Refusal {
+    DirectoryEntryAnswer::Refused(Refusal {
         number: 7,
         place: 0,
     })
 }
 
-fn entry_of(f: &[u8], c: u32, list: u32, k: u32) -> EntryAnswer
-    ensures { λ r. ⌜ entry-outcome r ≡ entryOf (now (f .entry)) c list k ⌝ }
+fn entry_of(f: &[u8], c: u32, list: u32, k: u32) -> DirectoryEntryAnswer
+    ensures { λ r. ⌜ directory-entry-outcome r ≡ entryNumber (now (f .entry)) c list k ⌝ }
 {
     match directory_of(f, c) {
-        ReachedAnswer::Refused(r) => EntryAnswer::Refused(r),
+        ReachedAnswer::Refused(r) => DirectoryEntryAnswer::Refused(r),
         ReachedAnswer::Got(d) => {
             let h = d.header;
             entry_in(f, h, d.place, list, k)
@@ -114,22 +114,22 @@ fn entry_of(f: &[u8], c: u32, list: u32, k: u32) -> EntryAnswer
 }
 
 // Field entry k of class c: the field, and where its set is.
-pub fn field_entry(f: &[u8], c: u32, k: u32) -> EntryAnswer
-    ensures { λ r. ⌜ entry-outcome r ≡ entryOf (now (f .entry)) c 0 k ⌝ }
+pub fn field_entry(f: &[u8], c: u32, k: u32) -> DirectoryEntryAnswer
+    ensures { λ r. ⌜ directory-entry-outcome r ≡ entryNumber (now (f .entry)) c 0 k ⌝ }
 {
     entry_of(f, c, 0, k)
 }
 
 // Method entry k of class c: the method, and where its set is.
-pub fn method_entry(f: &[u8], c: u32, k: u32) -> EntryAnswer
-    ensures { λ r. ⌜ entry-outcome r ≡ entryOf (now (f .entry)) c 1 k ⌝ }
+pub fn method_entry(f: &[u8], c: u32, k: u32) -> DirectoryEntryAnswer
+    ensures { λ r. ⌜ directory-entry-outcome r ≡ entryNumber (now (f .entry)) c 1 k ⌝ }
 {
     entry_of(f, c, 1, k)
 }
 
 // Parameter entry k of class c: the method, and where its reference list is.
-pub fn parameter_entry(f: &[u8], c: u32, k: u32) -> EntryAnswer
-    ensures { λ r. ⌜ entry-outcome r ≡ entryOf (now (f .entry)) c 2 k ⌝ }
+pub fn parameter_entry(f: &[u8], c: u32, k: u32) -> DirectoryEntryAnswer
+    ensures { λ r. ⌜ directory-entry-outcome r ≡ entryNumber (now (f .entry)) c 2 k ⌝ }
 {
     entry_of(f, c, 2, k)
 }

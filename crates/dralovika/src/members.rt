@@ -3,8 +3,8 @@ ghost use lib.ListN.{length};
 ghost use mathlib.Core.Path.{_≡_};
 ghost use Rattle.answer_rows.specs.Words.{told-if, number-words, counts-words, found-words, outline-words, try-words, handler-words, pair-words};
 ghost use Rattle.answer_rows.specs.Words.{debug-words, option-words};
-ghost use Rattle.code_readers.specs.Code.{codeOf, unitsOf, unitsContent, tryNumber, coveringTry, handlerCount, handlerNumber, handlerPair};
-ghost use Rattle.debug_readers.specs.Debug.{debugOf, parameterName};
+ghost use Rattle.code_readers.specs.Code.{methodCode, methodUnits, unitsContent, tryNumber, coveringTry, handlerCount, handlerNumber, handlerPair};
+ghost use Rattle.debug_readers.specs.Debug.{methodDebug, parameterName};
 ghost use Rattle.class_readers.specs.Members.{classData, memberNumber, memberFlags, memberContent};
 
 #[no_mangle]
@@ -41,7 +41,7 @@ pub extern "C" fn dralovika_member_flags(
 // The code of method k of a list of class c.
 #[no_mangle]
 pub extern "C" fn dralovika_code(f: &[u8], c: u32, list: u32, k: u32, out: &mut [u64; 20])
-    ensures { λ _. ⌜ now (out .exit) ≡ told-if outline-words (codeOf (now (f .entry)) c list k) ⌝ }
+    ensures { λ _. ⌜ now (out .exit) ≡ told-if outline-words (methodCode (now (f .entry)) c list k) ⌝ }
 {
     *out = answer_rows::code_row(dex::code(f, c, list, k));
 }
@@ -56,7 +56,7 @@ pub extern "C" fn dralovika_units(
     units: &mut [u16],
     out: &mut [u64; 20],
 )
-    ensures answer { λ _. ⌜ now (out .exit) ≡ told-if number-words (unitsOf (now (f .entry)) c list k (length (now (units .entry)))) ⌝ }
+    ensures answer { λ _. ⌜ now (out .exit) ≡ told-if number-words (methodUnits (now (f .entry)) c list k (length (now (units .entry)))) ⌝ }
     ensures content { λ _. ⌜ now (units .exit) ≡ unitsContent (now (f .entry)) c list k (now (units .entry)) ⌝ }
 {
     *out = answer_rows::written_row(dex::units(f, c, list, k, units));
@@ -131,7 +131,7 @@ pub extern "C" fn dralovika_handler_pair(
 // Its debug information: the line program as place and length.
 #[no_mangle]
 pub extern "C" fn dralovika_debug(f: &[u8], c: u32, list: u32, k: u32, out: &mut [u64; 20])
-    ensures { λ _. ⌜ now (out .exit) ≡ told-if debug-words (debugOf (now (f .entry)) c list k) ⌝ }
+    ensures { λ _. ⌜ now (out .exit) ≡ told-if debug-words (methodDebug (now (f .entry)) c list k) ⌝ }
 {
     *out = answer_rows::debug_row(dex::debug(f, c, list, k));
 }

@@ -1,8 +1,8 @@
 // Annotations.
 ghost use mathlib.Core.Path.{_≡_};
-ghost use Rattle.directory_readers.specs.Directories.{directory, entryOf};
+ghost use Rattle.directory_readers.specs.Directories.{directory, entryNumber};
 ghost use Rattle.value_readers.specs.Items.{annotationOf, elementOf};
-ghost use Rattle.set_readers.specs.Sets.{classSet, entrySet, parameterSet, parameterSetCount, countOf, placeOf};
+ghost use Rattle.set_readers.specs.Sets.{classSet, entrySet, parameterSet, parameterSetCount, annotationCount, annotationPlace};
 ghost use Rattle.answer_rows.specs.Words.{told, told-if, number-words, directory-words, place-words, annotation-words, element-words};
 
 #[no_mangle]
@@ -15,21 +15,21 @@ pub extern "C" fn dralovika_directory(f: &[u8], c: u32, out: &mut [u64; 20])
 // Entry e of a directory: what it is of, and where its set or reference list is.
 #[no_mangle]
 pub extern "C" fn dralovika_field_entry(f: &[u8], c: u32, e: u32, out: &mut [u64; 20])
-    ensures { λ _. ⌜ now (out .exit) ≡ told place-words (entryOf (now (f .entry)) c 0 e) ⌝ }
+    ensures { λ _. ⌜ now (out .exit) ≡ told place-words (entryNumber (now (f .entry)) c 0 e) ⌝ }
 {
     *out = answer_rows::place_row(dex::field_entry(f, c, e));
 }
 
 #[no_mangle]
 pub extern "C" fn dralovika_method_entry(f: &[u8], c: u32, e: u32, out: &mut [u64; 20])
-    ensures { λ _. ⌜ now (out .exit) ≡ told place-words (entryOf (now (f .entry)) c 1 e) ⌝ }
+    ensures { λ _. ⌜ now (out .exit) ≡ told place-words (entryNumber (now (f .entry)) c 1 e) ⌝ }
 {
     *out = answer_rows::place_row(dex::method_entry(f, c, e));
 }
 
 #[no_mangle]
 pub extern "C" fn dralovika_parameter_entry(f: &[u8], c: u32, e: u32, out: &mut [u64; 20])
-    ensures { λ _. ⌜ now (out .exit) ≡ told place-words (entryOf (now (f .entry)) c 2 e) ⌝ }
+    ensures { λ _. ⌜ now (out .exit) ≡ told place-words (entryNumber (now (f .entry)) c 2 e) ⌝ }
 {
     *out = answer_rows::place_row(dex::parameter_entry(f, c, e));
 }
@@ -37,21 +37,21 @@ pub extern "C" fn dralovika_parameter_entry(f: &[u8], c: u32, e: u32, out: &mut 
 // How many annotations a set has, and where each is.
 #[no_mangle]
 pub extern "C" fn dralovika_class_annotation_count(f: &[u8], c: u32, out: &mut [u64; 20])
-    ensures { λ _. ⌜ now (out .exit) ≡ told number-words (countOf (now (f .entry)) (classSet (now (f .entry)) c)) ⌝ }
+    ensures { λ _. ⌜ now (out .exit) ≡ told number-words (annotationCount (now (f .entry)) (classSet (now (f .entry)) c)) ⌝ }
 {
     *out = answer_rows::word_row(dex::class_annotation_count(f, c));
 }
 
 #[no_mangle]
 pub extern "C" fn dralovika_class_annotation_place(f: &[u8], c: u32, k: u32, out: &mut [u64; 20])
-    ensures { λ _. ⌜ now (out .exit) ≡ told number-words (placeOf (now (f .entry)) (classSet (now (f .entry)) c) k) ⌝ }
+    ensures { λ _. ⌜ now (out .exit) ≡ told number-words (annotationPlace (now (f .entry)) (classSet (now (f .entry)) c) k) ⌝ }
 {
     *out = answer_rows::word_row(dex::class_annotation_place(f, c, k));
 }
 
 #[no_mangle]
 pub extern "C" fn dralovika_field_annotation_count(f: &[u8], c: u32, e: u32, out: &mut [u64; 20])
-    ensures { λ _. ⌜ now (out .exit) ≡ told number-words (countOf (now (f .entry)) (entrySet (now (f .entry)) c 0 e)) ⌝ }
+    ensures { λ _. ⌜ now (out .exit) ≡ told number-words (annotationCount (now (f .entry)) (entrySet (now (f .entry)) c 0 e)) ⌝ }
 {
     *out = answer_rows::word_row(dex::field_annotation_count(f, c, e));
 }
@@ -64,14 +64,14 @@ pub extern "C" fn dralovika_field_annotation_place(
     k: u32,
     out: &mut [u64; 20],
 )
-    ensures { λ _. ⌜ now (out .exit) ≡ told number-words (placeOf (now (f .entry)) (entrySet (now (f .entry)) c 0 e) k) ⌝ }
+    ensures { λ _. ⌜ now (out .exit) ≡ told number-words (annotationPlace (now (f .entry)) (entrySet (now (f .entry)) c 0 e) k) ⌝ }
 {
     *out = answer_rows::word_row(dex::field_annotation_place(f, c, e, k));
 }
 
 #[no_mangle]
 pub extern "C" fn dralovika_method_annotation_count(f: &[u8], c: u32, e: u32, out: &mut [u64; 20])
-    ensures { λ _. ⌜ now (out .exit) ≡ told number-words (countOf (now (f .entry)) (entrySet (now (f .entry)) c 1 e)) ⌝ }
+    ensures { λ _. ⌜ now (out .exit) ≡ told number-words (annotationCount (now (f .entry)) (entrySet (now (f .entry)) c 1 e)) ⌝ }
 {
     *out = answer_rows::word_row(dex::method_annotation_count(f, c, e));
 }
@@ -84,7 +84,7 @@ pub extern "C" fn dralovika_method_annotation_place(
     k: u32,
     out: &mut [u64; 20],
 )
-    ensures { λ _. ⌜ now (out .exit) ≡ told number-words (placeOf (now (f .entry)) (entrySet (now (f .entry)) c 1 e) k) ⌝ }
+    ensures { λ _. ⌜ now (out .exit) ≡ told number-words (annotationPlace (now (f .entry)) (entrySet (now (f .entry)) c 1 e) k) ⌝ }
 {
     *out = answer_rows::word_row(dex::method_annotation_place(f, c, e, k));
 }
@@ -105,7 +105,7 @@ pub extern "C" fn dralovika_parameter_annotation_count(
     p: u32,
     out: &mut [u64; 20],
 )
-    ensures { λ _. ⌜ now (out .exit) ≡ told number-words (countOf (now (f .entry)) (parameterSet (now (f .entry)) c e p)) ⌝ }
+    ensures { λ _. ⌜ now (out .exit) ≡ told number-words (annotationCount (now (f .entry)) (parameterSet (now (f .entry)) c e p)) ⌝ }
 {
     *out = answer_rows::word_row(dex::parameter_annotation_count(f, c, e, p));
 }
@@ -119,7 +119,7 @@ pub extern "C" fn dralovika_parameter_annotation_place(
     k: u32,
     out: &mut [u64; 20],
 )
-    ensures { λ _. ⌜ now (out .exit) ≡ told number-words (placeOf (now (f .entry)) (parameterSet (now (f .entry)) c e p) k) ⌝ }
+    ensures { λ _. ⌜ now (out .exit) ≡ told number-words (annotationPlace (now (f .entry)) (parameterSet (now (f .entry)) c e p) k) ⌝ }
 {
     *out = answer_rows::word_row(dex::parameter_annotation_place(f, c, e, p, k));
 }

@@ -5,7 +5,7 @@ ghost use lib.ListN.{length};
 ghost use Rattle.header.specs.Header.{headerAt};
 ghost use Rattle.table_readers.specs.Head.{mapCount, mapEntry, handleCount};
 ghost use Rattle.table_readers.specs.Strings.{stringExtentOf, findString};
-ghost use Rattle.table_readers.specs.Tables.{typeName, protoOf, fieldOf, methodOf, handleOf, classOf};
+ghost use Rattle.table_readers.specs.Tables.{typeName, protoNumber, fieldNumber, methodNumber, handleNumber, classNumber};
 ghost use Rattle.table_readers.specs.Lists.{parameterCount, parameter, interfaceCount, interface};
 ghost use Rattle.table_readers.specs.Flags.{classFlags, classContent};
 ghost use Rattle.answer_rows.specs.Words.{told, told-if, number-words, header-words, signature-words, entry-words, handle-words, text-words};
@@ -50,7 +50,7 @@ pub extern "C" fn dralovika_handle_count(f: &[u8], out: &mut [u64; 20])
 
 #[no_mangle]
 pub extern "C" fn dralovika_handle(f: &[u8], n: u32, out: &mut [u64; 20])
-    ensures { λ _. ⌜ now (out .exit) ≡ told handle-words (handleOf (now (f .entry)) n) ⌝ }
+    ensures { λ _. ⌜ now (out .exit) ≡ told handle-words (handleNumber (now (f .entry)) n) ⌝ }
 {
     *out = answer_rows::handle_row(dex::handle(f, n));
 }
@@ -81,7 +81,7 @@ pub extern "C" fn dralovika_type_name(f: &[u8], n: u32, out: &mut [u64; 20])
 
 #[no_mangle]
 pub extern "C" fn dralovika_proto(f: &[u8], n: u32, out: &mut [u64; 20])
-    ensures { λ _. ⌜ now (out .exit) ≡ told proto-words (protoOf (now (f .entry)) n) ⌝ }
+    ensures { λ _. ⌜ now (out .exit) ≡ told proto-words (protoNumber (now (f .entry)) n) ⌝ }
 {
     *out = answer_rows::proto_row(dex::proto(f, n));
 }
@@ -103,21 +103,21 @@ pub extern "C" fn dralovika_parameter(f: &[u8], n: u32, k: u32, out: &mut [u64; 
 
 #[no_mangle]
 pub extern "C" fn dralovika_field(f: &[u8], n: u32, out: &mut [u64; 20])
-    ensures { λ _. ⌜ now (out .exit) ≡ told member-words (fieldOf (now (f .entry)) n) ⌝ }
+    ensures { λ _. ⌜ now (out .exit) ≡ told member-words (fieldNumber (now (f .entry)) n) ⌝ }
 {
     *out = answer_rows::member_row(dex::field(f, n));
 }
 
 #[no_mangle]
 pub extern "C" fn dralovika_method(f: &[u8], n: u32, out: &mut [u64; 20])
-    ensures { λ _. ⌜ now (out .exit) ≡ told member-words (methodOf (now (f .entry)) n) ⌝ }
+    ensures { λ _. ⌜ now (out .exit) ≡ told member-words (methodNumber (now (f .entry)) n) ⌝ }
 {
     *out = answer_rows::member_row(dex::method(f, n));
 }
 
 #[no_mangle]
 pub extern "C" fn dralovika_class(f: &[u8], n: u32, out: &mut [u64; 20])
-    ensures { λ _. ⌜ now (out .exit) ≡ told class-words (classOf (now (f .entry)) n) ⌝ }
+    ensures { λ _. ⌜ now (out .exit) ≡ told class-words (classNumber (now (f .entry)) n) ⌝ }
 {
     *out = answer_rows::class_row(dex::class(f, n));
 }

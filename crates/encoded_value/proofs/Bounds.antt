@@ -12,8 +12,8 @@ use Rattle.leb128.specs.Rules.{Uleb}
 use Rattle.leb128.proofs.Exactly.{uleb-exact}
 use Rattle.leb128.proofs.Laws.{uleb-span}
 use Rattle.value_heads.specs.declared.Walk.{Walk}
-use Rattle.encoded_value.specs.declared.Step.{Step}
-use Rattle.encoded_value.specs.declared.Step.the-variants as S
+use Rattle.encoded_value.specs.declared.StepAnswer.{StepAnswer}
+use Rattle.encoded_value.specs.declared.StepAnswer.the-variants as S
 use Rattle.encoded_value.specs.Tree.{Tree, Named, Annotation}
 use Rattle.encoded_value.specs.Readings.{arrayAt, annotationAt}
 use Rattle.encoded_value.specs.Rules.{Value, an-array, an-annotation, no-body, ArrayBody, array-body, AnnotationBody, annotation-body, NamedValue, a-named, ValueRow, no-value, next-value, NamedRow, no-named, next-named}
@@ -92,12 +92,12 @@ module _ (s : List ℕ) (w : Walk) where
   named-within-extent left p e q h = named-span (a-named (h .name-is) (h .value-is .0))
 
   -- the same, from the arm that was taken
-  pub array-ends : (left p : ℕ) {x : Step} {q : ℕ} → step-outcome x ≡ (arrayAt s w left p >>= past) → x ≡ S.Next q → Extent s p q
+  pub array-ends : (left p : ℕ) {x : StepAnswer} {q : ℕ} → step-outcome x ≡ (arrayAt s w left p >>= past) → x ≡ S.Next q → Extent s p q
   array-ends left p e t =
       let r = past-answer (arrayAt s w left p) (sym (ap step-outcome t) ∙ e) in
       subst (Extent s p) (r .1 .1) (array-span (array-exact s w left p .sound (r .0) (sym (r .1 .0)) .0))
 
-  pub annotation-ends : (left p : ℕ) {x : Step} {q : ℕ} → step-outcome x ≡ (annotationAt s w left p >>= past) → x ≡ S.Next q → Extent s p q
+  pub annotation-ends : (left p : ℕ) {x : StepAnswer} {q : ℕ} → step-outcome x ≡ (annotationAt s w left p >>= past) → x ≡ S.Next q → Extent s p q
   annotation-ends left p e t =
       let r = past-answer (annotationAt s w left p) (sym (ap step-outcome t) ∙ e) in
       subst (Extent s p) (r .1 .1) (annotation-span (annotation-exact s w left p .sound (r .0) (sym (r .1 .0)) .0))

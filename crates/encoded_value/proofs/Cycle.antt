@@ -17,16 +17,16 @@ use Rattle.refusal.proofs.Laws.{bind-answer, bind-refused, Walk as Loop, walk-n
 use Rattle.refusal.proofs.Rows.{bind-assoc, past-collect}
 use Rattle.leb128.specs.Leb.{ulebAt}
 use Rattle.leb128.specs.Answers.{leb-outcome}
-use Rattle.leb128.specs.declared.Leb.{Leb}
-use Rattle.leb128.specs.declared.Leb.the-variants as L
+use Rattle.leb128.specs.declared.LebAnswer.{LebAnswer}
+use Rattle.leb128.specs.declared.LebAnswer.the-variants as L
 use Rattle.value_heads.specs.declared.Walk.{Walk}
-use Rattle.value_heads.specs.Readings.{headAt, indexAt}
-use Rattle.value_heads.specs.Answers.{head-outcome}
+use Rattle.value_heads.specs.Readings.{headByteAt, indexAt}
+use Rattle.value_heads.specs.Answers.{head-byte-outcome}
 use Rattle.value_heads.proofs.Laws.{after-head}
-use Rattle.encoded_value.specs.declared.Step.{Step}
-use Rattle.encoded_value.specs.declared.Step.the-variants as S
-use Rattle.value_heads.specs.declared.HeadByte.{HeadByte}
-use Rattle.value_heads.specs.declared.HeadByte.the-variants as H
+use Rattle.encoded_value.specs.declared.StepAnswer.{StepAnswer}
+use Rattle.encoded_value.specs.declared.StepAnswer.the-variants as S
+use Rattle.value_heads.specs.declared.HeadByteAnswer.{HeadByteAnswer}
+use Rattle.value_heads.specs.declared.HeadByteAnswer.the-variants as H
 use Rattle.encoded_value.specs.Tree.{Tree, Named, Annotation}
 use Rattle.encoded_value.specs.Readings.{plainAt, startAt, arrayWith, namedWith, annotationWith, as-array, as-annotation, kindWith, valueWith, valueAt, arrayAt, annotationAt, pastValue, pastArray, pastAnnotation, pastNamed, pastPlain}
 use Rattle.encoded_value.specs.Answers.{step-outcome}
@@ -66,17 +66,17 @@ module _ (s : List ℕ) (w : Walk) where
     unfolding kindWith
     kind-plain n m = rw (ne-eqb (h % 32) 0x1c n, ne-eqb (h % 32) 0x1d m)
 
-  module _ (left p : ℕ) {x : HeadByte} (e : head-outcome x ≡ headAt s (w .item) p) where
+  module _ (left p : ℕ) {x : HeadByteAnswer} (e : head-byte-outcome x ≡ headByteAt s (w .item) p) where
     pub no-value : {r : Refusal} → x ≡ H.Refused r → valueAt s w left p ≡ refused r
     unfolding valueWith
-    no-value t = ap (λ (f : ℕ → Outcome (Found Tree ℕ)). f p) (value-open left) ∙ bind-refused _ (sym (sym (ap head-outcome t) ∙ e))
+    no-value t = ap (λ (f : ℕ → Outcome (Found Tree ℕ)). f p) (value-open left) ∙ bind-refused _ (sym (sym (ap head-byte-outcome t) ∙ e))
 
     pub value-refused : {r : Refusal} → x ≡ H.Refused r → refused r ≡ pastValue s w left p
     value-refused t = sym (bind-refused past (no-value t))
 
     pub value-kind : {h : ℕ} → x ≡ H.Got h → valueAt s w left p ≡ kindWith s w (arrayAt s w left) (annotationAt s w left) h (p + 1)
     unfolding valueWith
-    value-kind t = ap (λ (f : ℕ → Outcome (Found Tree ℕ)). f p) (value-open left) ∙ bind-answer _ (sym (sym (ap head-outcome t) ∙ e))
+    value-kind t = ap (λ (f : ℕ → Outcome (Found Tree ℕ)). f p) (value-open left) ∙ bind-answer _ (sym (sym (ap head-byte-outcome t) ∙ e))
 
     module _ {h : ℕ} (t : x ≡ H.Got h) {y : Outcome ℕ} where
       pub value-array : h % 32 ≡ 0x1c → y ≡ pastArray s w left (p + 1) → y ≡ pastValue s w left p
@@ -95,12 +95,12 @@ module _ (s : List ℕ) (w : Walk) where
   unfolding Bodyless
   bodyless-body p = tt
 
-  module _ (p : ℕ) {x : HeadByte} (e : head-outcome x ≡ headAt s (w .item) p) where
+  module _ (p : ℕ) {x : HeadByteAnswer} (e : head-byte-outcome x ≡ headByteAt s (w .item) p) where
     pub bodyless-headless : {r : Refusal} → x ≡ H.Refused r → Bodyless s w p (B.Refused r)
     unfolding Bodyless
     bodyless-headless t = λ left. value-refused left p e t
 
-    module _ {h : ℕ} (t : x ≡ H.Got h) (n : h % 32 ≡ 0x1c → ⊥) (m : h % 32 ≡ 0x1d → ⊥) {y : Step} (k : step-outcome y ≡ pastPlain s w h (p + 1)) where
+    module _ {h : ℕ} (t : x ≡ H.Got h) (n : h % 32 ≡ 0x1c → ⊥) (m : h % 32 ≡ 0x1d → ⊥) {y : StepAnswer} (k : step-outcome y ≡ pastPlain s w h (p + 1)) where
       pub bodyless-next : {q : ℕ} → y ≡ S.Next q → Bodyless s w p (B.Next q)
       unfolding Bodyless
       bodyless-next v = λ left. value-plain left p e t n m (sym (ap step-outcome v) ∙ k)
@@ -160,7 +160,7 @@ module _ (s : List ℕ) (w : Walk) where
         ∙ sym (bind-assoc (indexAt s (w .item) (w .types) p) past _)
 
     -- ---- a body begins
-    module _ (named : Bool) {x : Step} (e : step-outcome x ≡ indexPast s (w .item) named (w .types) p) where
+    module _ (named : Bool) {x : StepAnswer} (e : step-outcome x ≡ indexPast s (w .item) named (w .types) p) where
       pub front-refused : {r : Refusal} → x ≡ S.Refused r → refused r ≡ pastBody s w named left p
       front-refused t = sym (body-is named ∙ bind-refused _ (sym (sym (ap step-outcome t) ∙ e)))
 
@@ -168,10 +168,10 @@ module _ (s : List ℕ) (w : Walk) where
         sized : pastBody s w named left p ≡ (ulebAt s (w .item) q >>= λ (n : Found ℕ ℕ). pastValues s w named (left - 1) (n .item) (n .next))
         sized = body-is named ∙ bind-answer _ (sym (sym (ap step-outcome t) ∙ e))
 
-        pub size-refused : {y : Leb} {r : Refusal} → leb-outcome y ≡ ulebAt s (w .item) q → y ≡ L.Refused r → refused r ≡ pastBody s w named left p
+        pub size-refused : {y : LebAnswer} {r : Refusal} → leb-outcome y ≡ ulebAt s (w .item) q → y ≡ L.Refused r → refused r ≡ pastBody s w named left p
         size-refused g u = sym (sized ∙ bind-refused _ (sym (sym (ap leb-outcome u) ∙ g)))
 
-        pub size-got : {y : Leb} {n m : ℕ} {z : Outcome ℕ} → leb-outcome y ≡ ulebAt s (w .item) q → y ≡ L.Got n m → z ≡ pastValues s w named (left - 1) n m → z ≡ pastBody s w named left p
+        pub size-got : {y : LebAnswer} {n m : ℕ} {z : Outcome ℕ} → leb-outcome y ≡ ulebAt s (w .item) q → y ≡ L.Got n m → z ≡ pastValues s w named (left - 1) n m → z ≡ pastBody s w named left p
         size-got g u k = k ∙ sym (sized ∙ bind-answer _ (sym (sym (ap leb-outcome u) ∙ g)))
 
   -- ---- the two bodies by their names
@@ -196,7 +196,7 @@ values-done h l = walk-done (h .loop) l
 
 -- ---- one turn
 module _ {s : List ℕ} {w : Walk} {named : Bool} {left from count more p : ℕ} (h : Values s w named left from count more p) (l : 0 < more)
-    {x : Step} (e : step-outcome x ≡ indexPast s (w .item) named (w .strings) p) where
+    {x : StepAnswer} (e : step-outcome x ≡ indexPast s (w .item) named (w .strings) p) where
   pub name-stop : {r : Refusal} → x ≡ S.Refused r → refused r ≡ pastValues s w named left count from
   unfolding pastInner
   name-stop t = walk-stop (h .loop) l (sym (bind-refused _ (sym (sym (ap step-outcome t) ∙ e))))
@@ -227,10 +227,10 @@ module _ {s : List ℕ} {w : Walk} {named : Bool} {left from count more p : ℕ}
       moved : pastValue s' w' left at ≡ pastValue s w left at
       moved = λ i. pastValue (same i) (kept i) left at
 
-      pub body-turn : {y : Step} {q : ℕ} → step-outcome y ≡ pastValue s' w' left at → y ≡ S.Next q → Values s w named left from count (more - 1) q
+      pub body-turn : {y : StepAnswer} {q : ℕ} → step-outcome y ≡ pastValue s' w' left at → y ≡ S.Next q → Values s w named left from count (more - 1) q
       body-turn f u = turn-on (sym (ap step-outcome u) ∙ f ∙ moved)
 
-      pub body-stop : {y : Step} {r : Refusal} → step-outcome y ≡ pastValue s' w' left at → y ≡ S.Refused r → refused r ≡ pastValues s w named left count from
+      pub body-stop : {y : StepAnswer} {r : Refusal} → step-outcome y ≡ pastValue s' w' left at → y ≡ S.Refused r → refused r ≡ pastValues s w named left count from
       body-stop f u = turn-off (sym (ap step-outcome u) ∙ f ∙ moved)
 
 -- all of a slice

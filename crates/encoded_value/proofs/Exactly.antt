@@ -15,7 +15,7 @@ use Rattle.leb128.proofs.Exactly.{uleb-exact}
 use Rattle.value_heads.specs.declared.Walk.{Walk}
 use Rattle.value_heads.specs.Kinds.{bytes-of, count-of}
 use Rattle.value_heads.specs.Readings.{checkedAt}
-use Rattle.value_heads.specs.Rules.{Head, Number}
+use Rattle.value_heads.specs.Rules.{HeadByteRule, NumberRule}
 use Rattle.value_heads.proofs.Exactly.{head-exact, number-exact, range-decides, index-exact}
 use Rattle.encoded_value.specs.Tree.{Tree, Named, Annotation, array, annotation, trees, elements-of, restOf, plainOf}
 use Rattle.encoded_value.specs.Depth.{deepest, depth, array-depth, annotation-depth}
@@ -48,7 +48,7 @@ module _ (s : List ℕ) (w : Walk) where
       Range : ℕ → Type 0
       Range x = (0x15 ≤ h % 32) × (h % 32 < 0x1c) → x < count-of w (h % 32)
 
-      checked : (n : Found ℕ ℕ) → (m : Found ℕ ℕ) × (Number s p (bytes-of h) m × (Range (m .item) × (m ≡ n))) → Plain s w h p (plainOf (h % 32) (h / 32) (n .item)) (n .next)
+      checked : (n : Found ℕ ℕ) → (m : Found ℕ ℕ) × (NumberRule s p (bytes-of h) m × (Range (m .item) × (m ≡ n))) → Plain s w h p (plainOf (h % 32) (h / 32) (n .item)) (n .next)
       checked n k =
           subst (λ (x : Found ℕ ℕ). Plain s w h p (plainOf (h % 32) (h / 32) (x .item)) (x .next)) (k .1 .1 .1)
           (record { number = k .0 .item; bytes = k .1 .0; range = k .1 .1 .0; value = refl })
@@ -107,13 +107,13 @@ module _ (s : List ℕ) (w : Walk) where
         (bind-exact _ (λ (b : Found Annotation ℕ) (r : Found Tree ℕ). record { item = annotation (p + 1) (b .next) (b .item .type-index) (elements-of (b .item .elements)); next = b .next } ≡ r) (noted-exact (p + 1)) (λ b. answer-exact _))
         (plain-exact h (p + 1)))
 
-    value-there : (h : ℕ) → Head s p h → (r : Found Tree ℕ) → Ways h r → Within s w left p (r .item) (r .next)
+    value-there : (h : ℕ) → HeadByteRule s p h → (r : Found Tree ℕ) → Ways h r → Within s w left p (r .item) (r .next)
     unfolding depth
     value-there h i r (inl k) = subst (λ (x : Found Tree ℕ). Within s w left p (x .item) (x .next)) (k .1 .1 .1) (an-array i (k .0) (k .1 .1 .0 .0) refl, k .1 .1 .0 .1)
     value-there h i r (inr (n, inl k)) = subst (λ (x : Found Tree ℕ). Within s w left p (x .item) (x .next)) (k .1 .1 .1) (an-annotation i (k .0) (k .1 .1 .0 .0) refl, k .1 .1 .0 .1)
     value-there h i r (inr (n, inr k)) = (no-body i n (k .0) (k .1), subst (λ (v : Tree). depth v ≤ left) (k .1 .value) (let z = plain-depth (h % 32) (h / 32) (k .1 .number) in omega arith))
 
-    value-back : (v : Tree) (q : ℕ) → Value s w p v q → depth v ≤ left → (h : ℕ) × (Head s p h × Ways h (record { item = v; next = q }))
+    value-back : (v : Tree) (q : ℕ) → Value s w p v q → depth v ≤ left → (h : ℕ) × (HeadByteRule s p h × Ways h (record { item = v; next = q }))
     unfolding depth
     value-back v q (an-array {h = h} {vs = vs} i c k e) d =
         (h, (i, inl (c, (record { item = vs; next = q }, ((k, subst (λ (x : Tree). depth x ≤ left) (sym e) d), λ j. record { item = e j; next = q })))))

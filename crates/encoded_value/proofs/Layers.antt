@@ -7,7 +7,7 @@ use Rattle.refusal.specs.Rows.{Found}
 use Rattle.refusal.specs.Exact.{Row, empty, first}
 use Rattle.leb128.specs.Rules.{Uleb}
 use Rattle.value_heads.specs.declared.Walk.{Walk}
-use Rattle.value_heads.specs.Rules.{Index}
+use Rattle.value_heads.specs.Rules.{IndexRule}
 use Rattle.encoded_value.specs.Tree.{Tree, Named, Annotation, trees, elements-of}
 use Rattle.encoded_value.specs.Depth.{depth, trees-depth, elements-depth, array-depth, annotation-depth}
 use Rattle.encoded_value.specs.Rules.{Value, ArrayBody, array-body, AnnotationBody, annotation-body, NamedValue, a-named, ValueRow, no-value, next-value, NamedRow, no-named, next-named}
@@ -19,7 +19,7 @@ module _ (s : List ℕ) (w : Walk) where
 
   pub record NamedWithin (left p : ℕ) (e : Named) (q : ℕ) : Type 0 where
     pub after-name : ℕ
-    pub name-is : Index s (w .strings) p (record { item = e .name; next = after-name })
+    pub name-is : IndexRule s (w .strings) p (record { item = e .name; next = after-name })
     pub value-is : Within left after-name (e .value) q
 
   -- a body of them
@@ -30,7 +30,7 @@ module _ (s : List ℕ) (w : Walk) where
 
   pub record AnnotationWithin (left p : ℕ) (a : Annotation) (q : ℕ) : Type 0 where
     pub after-type : ℕ
-    pub type-is : Index s (w .types) p (record { item = a .type-index; next = after-type })
+    pub type-is : IndexRule s (w .types) p (record { item = a .type-index; next = after-type })
     pub size : Found ℕ ℕ
     pub uleb : Uleb s after-type size
     pub row : Row (NamedWithin left) (size .item) (size .next) (a .elements) q

@@ -13,14 +13,14 @@ use Rattle.refusal.specs.Rows.{Found, past}
 use Rattle.refusal.proofs.Laws.{said, tests, calls, bind-answer, bind-refused}
 use Rattle.leb128.proofs.Laws.{on-leb}
 use Rattle.value_heads.specs.declared.Walk.{Walk}
-use Rattle.value_heads.specs.declared.Number.{Number}
-use Rattle.value_heads.specs.declared.Number.the-variants as N
+use Rattle.value_heads.specs.declared.NumberAnswer.{NumberAnswer}
+use Rattle.value_heads.specs.declared.NumberAnswer.the-variants as N
 use Rattle.value_heads.specs.Kinds.{bytes-of, is-index, in-range}
 use Rattle.value_heads.specs.Readings.{numberAt, checkedAt, indexAt}
 use Rattle.value_heads.specs.Answers.{number-outcome}
 use Rattle.word.proofs.Laws.{room-fits}
 use Rattle.value_heads.proofs.Laws.{number-got, number-short, range-other}
-use Rattle.encoded_value.specs.declared.Step.{Step}
+use Rattle.encoded_value.specs.declared.StepAnswer.{StepAnswer}
 use Rattle.encoded_value.specs.Readings.{plainAt}
 use Rattle.encoded_value.specs.Stages.{indexPast}
 use Rattle.encoded_value.specs.Answers.{step-outcome}
@@ -48,7 +48,7 @@ always test place (answer n) h = rw (h (n .item))
 always test place (refused r) h = refl
 
 module _ (s : List ℕ) (w : Walk) (h at : ℕ) where
-  module _ {x : Number} (e : number-outcome x ≡ checkedAt s w h at) where
+  module _ {x : NumberAnswer} (e : number-outcome x ≡ checkedAt s w h at) where
     pub plain-got : {v n : ℕ} → x ≡ N.Got v n → answer n ≡ (plainAt s w h at >>= past)
     unfolding plainAt
     plain-got t = sym (bind-answer past (sym (sym (ap number-outcome t) ∙ e))) ∙ past-made _ (checkedAt s w h at)
@@ -64,7 +64,7 @@ module _ (s : List ℕ) (w : Walk) (h at : ℕ) where
       ∙ past-made _ (checkedAt s w h at)
 
 -- ---- a call's answer, by the arm that was taken
-pub on-step : {B : Type 0} {x c : Step} {o : Outcome ℕ} {y : Outcome B} (k : ℕ → Outcome B)
+pub on-step : {B : Type 0} {x c : StepAnswer} {o : Outcome ℕ} {y : Outcome B} (k : ℕ → Outcome B)
     → step-outcome x ≡ o → x ≡ c → y ≡ (step-outcome c >>= k) → y ≡ (o >>= k)
 on-step = said step-outcome
 

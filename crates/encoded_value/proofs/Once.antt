@@ -5,16 +5,16 @@ use mathlib.Core.Path.{_≡_, refl}
 use Rattle.refusal.specs.Outcome.{Outcome, answer, refused}
 use Rattle.refusal.proofs.Laws.{one-to-one}
 use Rattle.encoded_value.specs.Answers.{step-outcome}
-use Rattle.encoded_value.specs.declared.Step as S
+use Rattle.encoded_value.specs.declared.StepAnswer as S
 
-step-back : Outcome ℕ → S.Step
+step-back : Outcome ℕ → S.StepAnswer
 step-back (answer p) = S.the-variants.Next p
 step-back (refused r) = S.the-variants.Refused r
 
-step-told : (x : S.Step) → step-back (step-outcome x) ≡ x
+step-told : (x : S.StepAnswer) → step-back (step-outcome x) ≡ x
 unfolding step-back
 step-told (S.the-variants.Next p) = refl
 step-told (S.the-variants.Refused r) = refl
 
-pub step-once : (x y : S.Step) → step-outcome x ≡ step-outcome y → x ≡ y
+pub step-once : (x y : S.StepAnswer) → step-outcome x ≡ step-outcome y → x ≡ y
 step-once = one-to-one step-outcome step-back step-told

@@ -7,7 +7,7 @@ use Rattle.refusal.specs.Outcome.{Outcome, answer, refused, _>>=_}
 use Rattle.refusal.specs.Rows.{Found, past, collect}
 use Rattle.leb128.specs.Leb.{ulebAt}
 use Rattle.value_heads.specs.declared.Walk.{Walk}
-use Rattle.value_heads.specs.Readings.{headAt, numberAt, checkedAt, indexAt}
+use Rattle.value_heads.specs.Readings.{headByteAt, numberAt, checkedAt, indexAt}
 use Rattle.encoded_value.specs.Tree.{Named, Annotation, Tree, array, annotation, trees, elements-of, plainOf}
 
 -- a body as a value, with its place and its end
@@ -56,7 +56,7 @@ module _ (s : List ℕ) (w : Walk) where
 
     unfoldable pub valueWith : ℕ → Outcome (Found Tree ℕ)
     valueWith p = do
-      h ← headAt s (w .item) p
+      h ← headByteAt s (w .item) p
       kindWith h (p + 1)
 
   -- "depth 65 is 13, before its first byte is read"

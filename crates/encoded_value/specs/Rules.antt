@@ -6,7 +6,7 @@ use Rattle.refusal.specs.Rows.{Found}
 use Rattle.leb128.specs.Rules.{Uleb}
 use Rattle.value_heads.specs.declared.Walk.{Walk}
 use Rattle.value_heads.specs.Kinds.{bytes-of, count-of}
-use Rattle.value_heads.specs.Rules.{Head, Number, Index}
+use Rattle.value_heads.specs.Rules.{HeadByteRule, NumberRule, IndexRule}
 use Rattle.encoded_value.specs.Tree.{Named, Annotation, Tree, array, annotation, trees, elements-of, plainOf}
 use Rattle.encoded_value.specs.Depth.{deepest, array-depth, annotation-depth}
 
@@ -14,17 +14,17 @@ module _ (s : List ℕ) (w : Walk) where
   -- a value that is no body, behind its head byte h
   pub record Plain (h p : ℕ) (v : Tree) (q : ℕ) : Type 0 where
     pub number : ℕ
-    pub bytes : Number s p (bytes-of h) (record { item = number; next = q })
+    pub bytes : NumberRule s p (bytes-of h) (record { item = number; next = q })
     pub range : (0x15 ≤ h % 32) × (h % 32 < 0x1c) → number < count-of w (h % 32)
     pub value : plainOf (h % 32) (h / 32) number ≡ v
 
   mutual
     -- from p to q stands the value v: its head byte, then the body that it opens, or its bytes
     pub data Value : ℕ → Tree → ℕ → Type 0 where
-      an-array : {h p q : ℕ} {vs : List Tree} {v : Tree} → Head s p h → h % 32 ≡ 0x1c → ArrayBody (p + 1) vs q → array (p + 1) q (trees vs) ≡ v → Value p v q
-      an-annotation : {h p q : ℕ} {a : Annotation} {v : Tree} → Head s p h → h % 32 ≡ 0x1d → AnnotationBody (p + 1) a q
+      an-array : {h p q : ℕ} {vs : List Tree} {v : Tree} → HeadByteRule s p h → h % 32 ≡ 0x1c → ArrayBody (p + 1) vs q → array (p + 1) q (trees vs) ≡ v → Value p v q
+      an-annotation : {h p q : ℕ} {a : Annotation} {v : Tree} → HeadByteRule s p h → h % 32 ≡ 0x1d → AnnotationBody (p + 1) a q
           → annotation (p + 1) q (a .type-index) (elements-of (a .elements)) ≡ v → Value p v q
-      no-body : {h p q : ℕ} {v : Tree} → Head s p h → (h % 32 ≡ 0x1c → ⊥) → (h % 32 ≡ 0x1d → ⊥) → Plain h (p + 1) v q → Value p v q
+      no-body : {h p q : ℕ} {v : Tree} → HeadByteRule s p h → (h % 32 ≡ 0x1c → ⊥) → (h % 32 ≡ 0x1d → ⊥) → Plain h (p + 1) v q → Value p v q
 
     -- "An array holds values": its size, and so many values
     pub data ArrayBody : ℕ → List Tree → ℕ → Type 0 where
@@ -32,12 +32,12 @@ module _ (s : List ℕ) (w : Walk) where
 
     -- "an annotation holds named values": its type, its size, and so many named values
     pub data AnnotationBody : ℕ → Annotation → ℕ → Type 0 where
-      annotation-body : {p q from : ℕ} {size : Found ℕ ℕ} {a : Annotation} → Index s (w .types) p (record { item = a .type-index; next = from }) → Uleb s from size
+      annotation-body : {p q from : ℕ} {size : Found ℕ ℕ} {a : Annotation} → IndexRule s (w .types) p (record { item = a .type-index; next = from }) → Uleb s from size
           → NamedRow (size .item) (size .next) (a .elements) q → AnnotationBody p a q
 
     -- a name, and the value
     pub data NamedValue : ℕ → Named → ℕ → Type 0 where
-      a-named : {p q from : ℕ} {e : Named} → Index s (w .strings) p (record { item = e .name; next = from }) → Value from (e .value) q → NamedValue p e q
+      a-named : {p q from : ℕ} {e : Named} → IndexRule s (w .strings) p (record { item = e .name; next = from }) → Value from (e .value) q → NamedValue p e q
 
     -- n of them in a row, each from where the last one ended: as `Row` says it, which cannot be said of a type that is being declared
     pub data ValueRow : ℕ → ℕ → List Tree → ℕ → Type 0 where

@@ -1,9 +1,9 @@
 // Going over values, arrays and annotations: every rule of document 01's "Values" is tested, and only the next position is answered.
 // `s` is the file up to the data section's end, so that a position past its length is 9.
-use leb128::Leb;
+use leb128::LebAnswer;
 use refusal::Refusal;
-use value_heads::HeadByte;
-use value_heads::Number;
+use value_heads::HeadByteAnswer;
+use value_heads::NumberAnswer;
 use value_heads::Walk;
 ghost use mathlib.Core.Path.{_≡_};
 ghost use Rattle.value_heads.specs.Kinds.{bytes-of};
@@ -20,36 +20,36 @@ pub const DEEPEST: u32 = 64;
 pub const DEEPEST_VALUE: u32 = DEEPEST - 1;
 
 // Where to go on.
-pub enum Step {
+pub enum StepAnswer {
     Next(usize),
     Refused(Refusal),
 }
 
 // The bytes that follow a head byte, gone over.
-fn bytes_past(s: &[u8], item: usize, at: usize, head: u8) -> Step
+fn bytes_past(s: &[u8], item: usize, at: usize, head: u8) -> StepAnswer
     ensures { λ r. ⌜ step-outcome r ≡ pastNumber (now (s .entry)) item at (bytes-of head) ⌝ }
 {
     let n = value_heads::size_of(head);
     if word::has_room(s.len(), at, n) {
-        return Step::Next(at + n);
+        return StepAnswer::Next(at + n);
     }
-    Step::Refused(Refusal {
+    StepAnswer::Refused(Refusal {
         number: 9,
         place: item,
     })
 }
 
 // A value that is no body, behind its head byte: only an index is read to be checked.
-pub fn plain_past(s: &[u8], w: Walk, at: usize, head: u8) -> Step
+pub fn plain_past(s: &[u8], w: Walk, at: usize, head: u8) -> StepAnswer
     ensures { λ r. ⌜ step-outcome r ≡ pastPlain (now (s .entry)) w head at ⌝ }
 {
     if value_heads::is_index_code(head % 32) {
         match value_heads::checked_number(s, w, at, head) {
-            Number::Refused(r) => {
-                return Step::Refused(r);
+            NumberAnswer::Refused(r) => {
+                return StepAnswer::Refused(r);
             }
-            Number::Got { value: _, next } => {
-                return Step::Next(next);
+            NumberAnswer::Got { value: _, next } => {
+                return StepAnswer::Next(next);
             }
         }
     }
@@ -68,8 +68,8 @@ fn bodyless_at(s: &[u8], w: Walk, at: usize) -> BodylessAnswer
     ensures { λ r. ⌜ Bodyless (now (s .entry)) w at r ⌝ }
 {
     match value_heads::head_at(s, w.item, at) {
-        HeadByte::Refused(r) => BodylessAnswer::Refused(r),
-        HeadByte::Got(head) => {
+        HeadByteAnswer::Refused(r) => BodylessAnswer::Refused(r),
+        HeadByteAnswer::Got(head) => {
             let code = head % 32;
             if code == 0x1c {
                 return BodylessAnswer::Body;
@@ -78,28 +78,28 @@ fn bodyless_at(s: &[u8], w: Walk, at: usize) -> BodylessAnswer
                 return BodylessAnswer::Body;
             }
             match plain_past(s, w, at + 1, head) {
-                Step::Refused(r) => BodylessAnswer::Refused(r),
-                Step::Next(q) => BodylessAnswer::Next(q),
+                StepAnswer::Refused(r) => BodylessAnswer::Refused(r),
+                StepAnswer::Next(q) => BodylessAnswer::Next(q),
             }
         }
     }
 }
 
 // The index that an annotation has in front of its values (its type) and of each of them (its name), gone over. An array has none.
-fn index_past(s: &[u8], item: usize, named: bool, count: u32, at: usize) -> Step
+fn index_past(s: &[u8], item: usize, named: bool, count: u32, at: usize) -> StepAnswer
     ensures { λ r. ⌜ step-outcome r ≡ indexPast (now (s .entry)) item named count at ⌝ }
 {
     if named {
         match value_heads::index_at(s, item, count, at) {
-            Leb::Refused(r) => {
-                return Step::Refused(r);
+            LebAnswer::Refused(r) => {
+                return StepAnswer::Refused(r);
             }
-            Leb::Got { value: _, next } => {
-                return Step::Next(next);
+            LebAnswer::Got { value: _, next } => {
+                return StepAnswer::Next(next);
             }
         }
     }
-    Step::Next(at)
+    StepAnswer::Next(at)
 }
 
 // The slice and what stays the same, made anew for a nested call: a function that lends on what it was lent must copy it as it is entered, and
@@ -126,12 +126,12 @@ fn walk_anew(w: Walk) -> Walk
 }
 
 // A value: its head byte, then the body that it opens, or its bytes.
-pub fn value(s: &[u8], w: Walk, at: usize, left: u32) -> Step
+pub fn value(s: &[u8], w: Walk, at: usize, left: u32) -> StepAnswer
     ensures { λ r. ⌜ step-outcome r ≡ pastValue (now (s .entry)) w left at ⌝ }
 {
     match value_heads::head_at(s, w.item, at) {
-        HeadByte::Refused(r) => Step::Refused(r),
-        HeadByte::Got(head) => {
+        HeadByteAnswer::Refused(r) => StepAnswer::Refused(r),
+        HeadByteAnswer::Got(head) => {
             let code = head % 32;
             if code == 0x1c {
                 return array_body(s, w, at + 1, left);
@@ -145,19 +145,19 @@ pub fn value(s: &[u8], w: Walk, at: usize, left: u32) -> Step
 }
 
 // The values of a body, each with its name in front where the body is an annotation.
-fn values_past(s: &[u8], w: Walk, named: bool, from: usize, count: u32, left: u32) -> Step
+fn values_past(s: &[u8], w: Walk, named: bool, from: usize, count: u32, left: u32) -> StepAnswer
     ensures { λ r. ⌜ step-outcome r ≡ pastValues (now (s .entry)) w named left count from ⌝ }
 {
     let mut p = from;
     let mut more = count;
     while 0 < more {
         match index_past(s, w.item, named, w.strings, p) {
-            Step::Refused(r) => {
-                return Step::Refused(r);
+            StepAnswer::Refused(r) => {
+                return StepAnswer::Refused(r);
             }
-            Step::Next(at) => match bodyless_at(s, w, at) {
+            StepAnswer::Next(at) => match bodyless_at(s, w, at) {
                 BodylessAnswer::Refused(r) => {
-                    return Step::Refused(r);
+                    return StepAnswer::Refused(r);
                 }
                 BodylessAnswer::Next(q) => {
                     p = q;
@@ -165,10 +165,10 @@ fn values_past(s: &[u8], w: Walk, named: bool, from: usize, count: u32, left: u3
                     continue;
                 }
                 BodylessAnswer::Body => match value(slice_anew(s), walk_anew(w), at, left) {
-                    Step::Refused(r) => {
-                        return Step::Refused(r);
+                    StepAnswer::Refused(r) => {
+                        return StepAnswer::Refused(r);
                     }
-                    Step::Next(q) => {
+                    StepAnswer::Next(q) => {
                         p = q;
                     }
                 },
@@ -176,60 +176,67 @@ fn values_past(s: &[u8], w: Walk, named: bool, from: usize, count: u32, left: u3
         }
         more -= 1;
     }
-    Step::Next(p)
+    StepAnswer::Next(p)
 }
 
 // A body, if one more may be opened: the type of an annotation, the size, and the values, of which each may open one body less.
-fn body_past(s: &[u8], w: Walk, named: bool, at: usize, left: u32) -> Step
+fn body_past(s: &[u8], w: Walk, named: bool, at: usize, left: u32) -> StepAnswer
     ensures { λ r. ⌜ step-outcome r ≡ pastBody (now (s .entry)) w named left at ⌝ }
 {
     if left <= 0 {
-        return Step::Refused(Refusal {
+        return StepAnswer::Refused(Refusal {
             number: 13,
             place: w.item,
         });
     }
     match index_past(s, w.item, named, w.types, at) {
-        Step::Refused(r) => Step::Refused(r),
-        Step::Next(from) => match leb128::uleb(s, from, w.item) {
-            Leb::Refused(r) => Step::Refused(r),
-            Leb::Got { value: count, next } => values_past(s, w, named, next, count, left - 1),
+        StepAnswer::Refused(r) => StepAnswer::Refused(r),
+        StepAnswer::Next(from) => match leb128::uleb(s, from, w.item) {
+            LebAnswer::Refused(r) => StepAnswer::Refused(r),
+            LebAnswer::Got { value: count, next } => values_past(
+                s,
+                w,
+                named,
+                next,
+                count,
+                left - 1,
+            ),
         },
     }
 }
 
 // An array's body: its size, then its values.
-pub fn array_body(s: &[u8], w: Walk, at: usize, left: u32) -> Step
+pub fn array_body(s: &[u8], w: Walk, at: usize, left: u32) -> StepAnswer
     ensures { λ r. ⌜ step-outcome r ≡ pastArray (now (s .entry)) w left at ⌝ }
 {
     body_past(s, w, false, at, left)
 }
 
 // An annotation's body: its type, its size, then its named values.
-pub fn annotation_body(s: &[u8], w: Walk, at: usize, left: u32) -> Step
+pub fn annotation_body(s: &[u8], w: Walk, at: usize, left: u32) -> StepAnswer
     ensures { λ r. ⌜ step-outcome r ≡ pastAnnotation (now (s .entry)) w left at ⌝ }
 {
     body_past(s, w, true, at, left)
 }
 
 // An annotation's type and size: how many elements, and where they start.
-pub fn annotation_start(s: &[u8], w: Walk, at: usize) -> Leb
+pub fn annotation_start(s: &[u8], w: Walk, at: usize) -> LebAnswer
     ensures { λ r. ⌜ leb-outcome r ≡ startAt (now (s .entry)) w at ⌝ }
 {
     match value_heads::index_at(s, w.item, w.types, at) {
-        Leb::Refused(r) => Leb::Refused(r),
-        Leb::Got { value: _, next } => leb128::uleb(s, next, w.item),
+        LebAnswer::Refused(r) => LebAnswer::Refused(r),
+        LebAnswer::Got { value: _, next } => leb128::uleb(s, next, w.item),
     }
 }
 
 // A top body is depth 1, and the deepest that may be opened is DEEPEST.
-pub fn top_array(s: &[u8], w: Walk, at: usize) -> Step
+pub fn top_array(s: &[u8], w: Walk, at: usize) -> StepAnswer
     ensures { λ r. ⌜ step-outcome r ≡ pastArray (now (s .entry)) w deepest at ⌝ }
 {
     array_body(s, w, at, DEEPEST)
 }
 
-pub fn top_annotation(s: &[u8], w: Walk, at: usize) -> Step
+pub fn top_annotation(s: &[u8], w: Walk, at: usize) -> StepAnswer
     ensures { λ r. ⌜ step-outcome r ≡ pastAnnotation (now (s .entry)) w deepest at ⌝ }
 {
     annotation_body(s, w, at, DEEPEST)

@@ -15,12 +15,12 @@ use Rattle.value_heads.specs.Kinds.{arguments, allowed-head, bytes-of, is-index
 use Rattle.value_heads.specs.Numbers as N
 use Rattle.encoded_value.specs.Tree.{restOf, plainOf}
 use Rattle.encoded_value.specs.Depth.{deepest-value}
-use Rattle.value_heads.specs.Readings.{headAt, numberAt, checkedAt}
+use Rattle.value_heads.specs.Readings.{headByteAt, numberAt, checkedAt}
 use Rattle.encoded_value.specs.Readings.{plainAt, kindWith, valueWith, valueAt}
 use Rattle.decoded_value.specs.Shown.{Shown, is, integer, natural, floating}
 use Rattle.decoded_value.specs.Readings.{decodedAt}
 use Rattle.class_members.specs.declared.Member.{Member}
-use Rattle.class_members.specs.declared.Judge.{Judge}
+use Rattle.class_members.specs.declared.MemberJudge.{MemberJudge}
 use Rattle.class_members.specs.Members as M
 
 -- the indices of members
@@ -88,5 +88,5 @@ cases =
     ∷ []
 
 pub examples : All cases
-unfolding indices numbered bytesAt weight scale signed ulebAt slebAt arguments allowed-head bytes-of is-index in-range N.little N.signed N.raised restOf plainOf stretch headAt numberAt checkedAt plainAt kindWith valueWith valueAt decodedAt M.membersAt M.stepAt M.memberAt M.restAt M.codeAt M.apart collect given _>>=_
+unfolding indices numbered bytesAt weight scale signed ulebAt slebAt arguments allowed-head bytes-of is-index in-range N.little N.signed N.raised restOf plainOf stretch headByteAt numberAt checkedAt plainAt kindWith valueWith valueAt decodedAt M.membersAt M.stepAt M.memberAt M.restAt M.codeAt M.apart collect given _>>=_
 examples = (refl, (refl, (refl, (refl, (refl, (refl, (refl, (refl, (refl, (refl, (refl, (refl, (refl, (refl, (refl, (refl, tt))))))))))))))))

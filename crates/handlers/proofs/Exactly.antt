@@ -18,7 +18,7 @@ use Rattle.leb128.proofs.Exactly.{uleb-exact, sleb-exact}
 use Rattle.leb128.proofs.Laws.{uleb-span, sleb-span}
 use Rattle.sign.specs.Magnitude.{magnitude}
 use Rattle.handlers.specs.declared.Pair.{Pair}
-use Rattle.handlers.specs.declared.Judge.{Judge}
+use Rattle.handlers.specs.declared.HandlerJudge.{HandlerJudge}
 use Rattle.handlers.specs.Handlers.{catches, addressAt, pairAt, catchAt, Handler, handlerAt, HandlerList, handlersAt}
 use Rattle.handlers.specs.Rules.{AddressRule, PairRule, CatchRule, HandlerRule, HandlersRule}
 
@@ -28,7 +28,7 @@ StartsBefore a b = a .offset < b .offset
 starts-strict : Strict StartsBefore
 starts-strict = record { never = λ p. omega arith; onward = λ p q. omega arith }
 
-module _ (s : List ℕ) (j : Judge) where
+module _ (s : List ℕ) (j : HandlerJudge) where
   address-exact : (p : ℕ) → Exact (addressAt s j p) (λ (r : Found ℕ ℕ). AddressRule s j p (r .item) (r .next))
   unfolding addressAt
   address-exact p =

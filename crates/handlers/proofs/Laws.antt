@@ -27,15 +27,15 @@ use Rattle.leb128.specs.Leb.{ulebAt, slebAt}
 use Rattle.leb128.proofs.Laws.{on-leb, on-signed}
 use Rattle.sign.specs.Magnitude.{magnitude}
 use Rattle.handlers.specs.declared.Pair.{Pair}
-use Rattle.handlers.specs.declared.Judge.{Judge}
+use Rattle.handlers.specs.declared.HandlerJudge.{HandlerJudge}
 use Rattle.handlers.specs.declared.Brief.{Brief}
-use Rattle.handlers.specs.declared.PairFound.{PairFound}
-use Rattle.handlers.specs.declared.PairFound.the-variants as P
-use Rattle.handlers.specs.declared.AllFound.{AllFound}
-use Rattle.handlers.specs.declared.BriefFound.{BriefFound}
-use Rattle.handlers.specs.declared.BriefFound.the-variants as B
-use Rattle.handlers.specs.declared.ListAnswer.{ListAnswer}
-use Rattle.handlers.specs.Handlers.{catches, addressAt, pairAt, catchAt, Handler, handlerAt, HandlerList, handlersAt, nothing, nobody, caught-in, address-in, brief, briefly, keptHandler, Kept, keptAt, keptPairs, Caught, allAt, restAt, stagedHandler, keptList, stagedAt}
+use Rattle.handlers.specs.declared.PairFoundAnswer.{PairFoundAnswer}
+use Rattle.handlers.specs.declared.PairFoundAnswer.the-variants as P
+use Rattle.handlers.specs.declared.CatchAllAnswer.{CatchAllAnswer}
+use Rattle.handlers.specs.declared.BriefAnswer.{BriefAnswer}
+use Rattle.handlers.specs.declared.BriefAnswer.the-variants as B
+use Rattle.handlers.specs.declared.HandlersAnswer.{HandlersAnswer}
+use Rattle.handlers.specs.Handlers.{catches, addressAt, pairAt, catchAt, Handler, handlerAt, HandlerList, handlersAt, nothing, nobody, caught-in, address-in, brief, briefly, keptHandler, KeptHandlers, keptHandlersAt, keptPairs, Caught, allAt, restAt, stagedHandler, keptList, stagedAt}
 use Rattle.handlers.specs.Answers.{pair-outcome, all-outcome, brief-outcome, list-outcome}
 
 -- ---- a signed size: `back z` is what the machine reads from z's bits
@@ -69,18 +69,18 @@ pub before-base : (at base : ℕ) → at < base → 0 ≡ at - base
 before-base at base h = omega arith
 
 -- ---- the loop of `pairs_at` at its head
-pub record Pairs (s : List ℕ) (j : Judge) (from count k left p i : ℕ) (kept : Pair) : Type 0 where
+pub record Pairs (s : List ℕ) (j : HandlerJudge) (from count k left p i : ℕ) (kept : Pair) : Type 0 where
   choosing : Choosing (pairAt s j) count from nothing k left p i kept
   pub sum : i + left ≡ count
 
-pub pairs-first : (s : List ℕ) (j : Judge) (from count k : ℕ) → Pairs s j from count k count from 0 nothing
+pub pairs-first : (s : List ℕ) (j : HandlerJudge) (from count k : ℕ) → Pairs s j from count k count from 0 nothing
 pairs-first s j from count k = record { choosing = choosing-first (pairAt s j) count from nothing k; sum = omega arith }
 
-module _ {s : List ℕ} {j : Judge} {from count k left p i : ℕ} {kept : Pair} (h : Pairs s j from count k left p i kept) where
-  pub pairs-next : {x : PairFound} {a new : Pair} {n : ℕ} → 0 < left → pair-outcome x ≡ pairAt s j p → x ≡ P.Got a n → new ≡ cond (eqb i k) a kept → Pairs s j from count k (left - 1) n (i + 1) new
+module _ {s : List ℕ} {j : HandlerJudge} {from count k left p i : ℕ} {kept : Pair} (h : Pairs s j from count k left p i kept) where
+  pub pairs-next : {x : PairFoundAnswer} {a new : Pair} {n : ℕ} → 0 < left → pair-outcome x ≡ pairAt s j p → x ≡ P.Got a n → new ≡ cond (eqb i k) a kept → Pairs s j from count k (left - 1) n (i + 1) new
   pairs-next l e t w = record { choosing = choosing-next (h .choosing) l (sym (ap pair-outcome t) ∙ e) w; sum = let z = h .sum in omega arith }
 
-  pub pairs-stop : {x : PairFound} {r : Refusal} → 0 < left → pair-outcome x ≡ pairAt s j p → x ≡ P.Refused r → refused r ≡ keptPairs s j from count k
+  pub pairs-stop : {x : PairFoundAnswer} {r : Refusal} → 0 < left → pair-outcome x ≡ pairAt s j p → x ≡ P.Refused r → refused r ≡ keptPairs s j from count k
   unfolding keptPairs
   pairs-stop l e t = choosing-stop (h .choosing) l (sym (ap pair-outcome t) ∙ e)
 
@@ -89,7 +89,7 @@ module _ {s : List ℕ} {j : Judge} {from count k left p i : ℕ} {kept : Pair} 
   pairs-done l = choosing-done (h .choosing) l
 
 -- ---- what is kept of a handler that was read
-module _ (s : List ℕ) (j : Judge) (k p : ℕ) where
+module _ (s : List ℕ) (j : HandlerJudge) (k p : ℕ) where
   -- there is a handler of which that is kept
   pub behind : {b : Brief} {n : ℕ} → answer (record { item = b; next = n }) ≡ keptHandler s j k p → (a : Handler) × ((answer (record { item = a; next = n }) ≡ handlerAt s j p) × (brief k a ≡ b))
   unfolding keptHandler _>>=_
@@ -110,17 +110,17 @@ module _ (s : List ℕ) (j : Judge) (k p : ℕ) where
       go (refused q) e = cc
 
 -- ---- the loop of `list_found` at its head
-pub record Listing (s : List ℕ) (j : Judge) (from count h k left p i : ℕ) (kept : Brief) : Type 0 where
+pub record Listing (s : List ℕ) (j : HandlerJudge) (from count h k left p i : ℕ) (kept : Brief) : Type 0 where
   handler : Handler
   is : brief k handler ≡ kept
   choosing : Choosing (handlerAt s j) count from nobody h left p i handler
   pub sum : i + left ≡ count
 
-pub listing-first : (s : List ℕ) (j : Judge) (from count h k : ℕ) → Listing s j from count h k count from 0 (record { offset = 0; pairs = 0; pair = nothing; caught = false; all = 0 })
+pub listing-first : (s : List ℕ) (j : HandlerJudge) (from count h k : ℕ) → Listing s j from count h k count from 0 (record { offset = 0; pairs = 0; pair = nothing; caught = false; all = 0 })
 listing-first s j from count h k = record { handler = nobody; is = refl; choosing = choosing-first (handlerAt s j) count from nobody h; sum = omega arith }
 
-module _ {s : List ℕ} {j : Judge} {from count h k left p i : ℕ} {kept : Brief} (w : Listing s j from count h k left p i kept) where
-  pub listing-next : {x : BriefFound} {b new : Brief} {n : ℕ} → 0 < left → brief-outcome x ≡ keptHandler s j k p → x ≡ B.Got b n → new ≡ cond (eqb i h) b kept
+module _ {s : List ℕ} {j : HandlerJudge} {from count h k left p i : ℕ} {kept : Brief} (w : Listing s j from count h k left p i kept) where
+  pub listing-next : {x : BriefAnswer} {b new : Brief} {n : ℕ} → 0 < left → brief-outcome x ≡ keptHandler s j k p → x ≡ B.Got b n → new ≡ cond (eqb i h) b kept
       → Listing s j from count h k (left - 1) n (i + 1) new
   listing-next {x} {b} {new} {n} l e t q =
       let a = behind s j k p (sym (ap brief-outcome t) ∙ e) in
@@ -130,7 +130,7 @@ module _ {s : List ℕ} {j : Judge} {from count h k left p i : ℕ} {kept : Brie
       go true a m = m
       go false a m = w .is
 
-  pub listing-stop : {x : BriefFound} {r : Refusal} → 0 < left → brief-outcome x ≡ keptHandler s j k p → x ≡ B.Refused r → refused r ≡ keptList s j from count h k
+  pub listing-stop : {x : BriefAnswer} {r : Refusal} → 0 < left → brief-outcome x ≡ keptHandler s j k p → x ≡ B.Refused r → refused r ≡ keptList s j from count h k
   unfolding keptList
   listing-stop l e t = sym (bind-refused (briefly k) (sym (choosing-stop (w .choosing) l (unread s j k p (sym (ap brief-outcome t) ∙ e)))))
 
@@ -145,7 +145,7 @@ guarded n p true o f e = e
 guarded n p false o f e = refl
 
 -- ---- the stages: of a handler one pair is kept, of the list one handler
-module _ (s : List ℕ) (j : Judge) where
+module _ (s : List ℕ) (j : HandlerJudge) where
   catch-stage : {B : Type 0} (b : Bool) (p : ℕ) (f : Found (Option ℕ) ℕ → Outcome B) (g : Caught → Outcome B)
       → ((c : Found (Option ℕ) ℕ) → f c ≡ g (record { caught = caught-in (c .item); all = address-in (c .item); next = c .next }))
       → (cond b (addressAt s j p >>= λ (a : Found ℕ ℕ). answer (record { item = some (a .item); next = a .next })) (answer (record { item = none; next = p })) >>= f)
@@ -179,15 +179,15 @@ module _ (s : List ℕ) (j : Judge) where
       → y ≡ restAt s j offset pairs (back z) from k → y ≡ restAt s j (at - j .base) (magnitude z) z from k
   rest-by z at from k f e g h = h ∙ λ i. restAt s j (e i) ((g ∙ ap magnitude (toZ-ofZ w32 z f)) i) (toZ-ofZ w32 z f i) from k
 
-  pub all-asked : {B : Type 0} (z : ℤ) (p : ℕ) {x c : AllFound} {y : Outcome B} (k : Caught → Outcome B) → SFits w32 z → all-outcome x ≡ allAt s j (back z) p → x ≡ c
+  pub all-asked : {B : Type 0} (z : ℤ) (p : ℕ) {x c : CatchAllAnswer} {y : Outcome B} (k : Caught → Outcome B) → SFits w32 z → all-outcome x ≡ allAt s j (back z) p → x ≡ c
       → y ≡ (all-outcome c >>= k) → y ≡ (allAt s j z p >>= k)
   all-asked z p k f e m h = said all-outcome k (e ∙ ap (λ (y : ℤ). allAt s j y p) (toZ-ofZ w32 z f)) m h
 
-  abbrev keeping : ℕ → ℕ → HandlerList → Outcome Kept
+  abbrev keeping : ℕ → ℕ → HandlerList → Outcome KeptHandlers
   keeping h k l = answer (record { count = length (l .handlers); brief = brief k (getD (l .handlers) h nobody); first = l .first; end = l .end })
 
-  pub list-by : (h k : ℕ) {y : Outcome Kept} → y ≡ stagedAt s j h k → y ≡ keptAt s j h k
-  unfolding keptAt handlersAt stagedAt keptList
+  pub list-by : (h k : ℕ) {y : Outcome KeptHandlers} → y ≡ stagedAt s j h k → y ≡ keptHandlersAt s j h k
+  unfolding keptHandlersAt handlersAt stagedAt keptList
   list-by h k e =
       e ∙ sym (bind-assoc (ulebAt s (j .item) (j .base)) _ (keeping h k) ∙ λ i. ulebAt s (j .item) (j .base) >>= λ (n : Found ℕ ℕ). rest n i)
     where
@@ -207,13 +207,13 @@ module _ (s : List ℕ) (j : Judge) where
       rest n = guarded 17 (j .item) (ltb 0 (n .item)) _ (keeping h k) (inner n)
 
 -- ---- calls, by the arm that was taken
-pub on-pair : {B : Type 0} {x c : PairFound} {o : Outcome (Found Pair ℕ)} {y : Outcome B} (k : Found Pair ℕ → Outcome B) → pair-outcome x ≡ o → x ≡ c → y ≡ (pair-outcome c >>= k) → y ≡ (o >>= k)
+pub on-pair : {B : Type 0} {x c : PairFoundAnswer} {o : Outcome (Found Pair ℕ)} {y : Outcome B} (k : Found Pair ℕ → Outcome B) → pair-outcome x ≡ o → x ≡ c → y ≡ (pair-outcome c >>= k) → y ≡ (o >>= k)
 on-pair = said pair-outcome
 
-pub on-brief : {B : Type 0} {x c : BriefFound} {o : Outcome (Found Brief ℕ)} {y : Outcome B} (k : Found Brief ℕ → Outcome B) → brief-outcome x ≡ o → x ≡ c → y ≡ (brief-outcome c >>= k) → y ≡ (o >>= k)
+pub on-brief : {B : Type 0} {x c : BriefAnswer} {o : Outcome (Found Brief ℕ)} {y : Outcome B} (k : Found Brief ℕ → Outcome B) → brief-outcome x ≡ o → x ≡ c → y ≡ (brief-outcome c >>= k) → y ≡ (o >>= k)
 on-brief = said brief-outcome
 
-pub on-list : {B : Type 0} {x c : ListAnswer} {o : Outcome Kept} {y : Outcome B} (k : Kept → Outcome B) → list-outcome x ≡ o → x ≡ c → y ≡ (list-outcome c >>= k) → y ≡ (o >>= k)
+pub on-list : {B : Type 0} {x c : HandlersAnswer} {o : Outcome KeptHandlers} {y : Outcome B} (k : KeptHandlers → Outcome B) → list-outcome x ≡ o → x ≡ c → y ≡ (list-outcome c >>= k) → y ≡ (o >>= k)
 on-list = said list-outcome
 
 -- ---- what this crate's functions are searched with

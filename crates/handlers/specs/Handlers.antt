@@ -12,7 +12,7 @@ use Rattle.refusal.specs.Choose.{choose}
 use Rattle.leb128.specs.Leb.{ulebAt, slebAt}
 use Rattle.sign.specs.Magnitude.{magnitude}
 use Rattle.handlers.specs.declared.Pair.{Pair}
-use Rattle.handlers.specs.declared.Judge.{Judge}
+use Rattle.handlers.specs.declared.HandlerJudge.{HandlerJudge}
 use Rattle.handlers.specs.declared.Brief.{Brief}
 
 -- "for s at most 0, a catch-all"
@@ -22,12 +22,12 @@ catches (pos (suc n)) = false
 catches (negsuc n) = true
 
 -- "Addresses are below the unit count": 17
-unfoldable pub addressAt : List ℕ → Judge → ℕ → Outcome (Found ℕ ℕ)
+unfoldable pub addressAt : List ℕ → HandlerJudge → ℕ → Outcome (Found ℕ ℕ)
 addressAt s j p = do
   a ← ulebAt s (j .item) p
   given (ltb (a .item) (j .units)) 17 (j .item) (answer a)
 
-unfoldable pub pairAt : List ℕ → Judge → ℕ → Outcome (Found Pair ℕ)
+unfoldable pub pairAt : List ℕ → HandlerJudge → ℕ → Outcome (Found Pair ℕ)
 pairAt s j p = do
   t ← ulebAt s (j .item) p
   given (ltb (t .item) (j .types)) 11 (j .item) do
@@ -35,7 +35,7 @@ pairAt s j p = do
     answer (record { item = record { kind = t .item; address = a .item }; next = a .next })
 
 -- the catch-all's address, or none
-unfoldable pub catchAt : List ℕ → Judge → ℤ → ℕ → Outcome (Found (Option ℕ) ℕ)
+unfoldable pub catchAt : List ℕ → HandlerJudge → ℤ → ℕ → Outcome (Found (Option ℕ) ℕ)
 catchAt s j size p =
     cond (catches size) (do
       a ← addressAt s j p
@@ -49,7 +49,7 @@ pub record Handler : Type 0 where
   pub all : Option ℕ
 
 -- "A handler of size s has |s| pairs and, for s at most 0, a catch-all."
-unfoldable pub handlerAt : List ℕ → Judge → ℕ → Outcome (Found Handler ℕ)
+unfoldable pub handlerAt : List ℕ → HandlerJudge → ℕ → Outcome (Found Handler ℕ)
 handlerAt s j p = do
   z ← slebAt s (j .item) p
   ps ← collect (magnitude (z .item)) (pairAt s j) (z .next)
@@ -63,7 +63,7 @@ pub record HandlerList : Type 0 where
   pub end : ℕ
 
 -- "Without tries there is no handler list", and with tries one of size 0 is 17
-unfoldable pub handlersAt : List ℕ → Judge → Outcome HandlerList
+unfoldable pub handlersAt : List ℕ → HandlerJudge → Outcome HandlerList
 handlersAt s j = do
   n ← ulebAt s (j .item) (j .base)
   given (ltb 0 (n .item)) 17 (j .item) do
@@ -91,22 +91,22 @@ brief k h = record { offset = h .offset; pairs = length (h .pairs); pair = getD 
 abbrev pub briefly : ℕ → Found Handler ℕ → Outcome (Found Brief ℕ)
 briefly k h = answer (record { item = brief k (h .item); next = h .next })
 
-unfoldable pub keptHandler : List ℕ → Judge → ℕ → ℕ → Outcome (Found Brief ℕ)
+unfoldable pub keptHandler : List ℕ → HandlerJudge → ℕ → ℕ → Outcome (Found Brief ℕ)
 keptHandler s j k p = handlerAt s j p >>= briefly k
 
-pub record Kept : Type 0 where
+pub record KeptHandlers : Type 0 where
   pub count : ℕ
   pub brief : Brief
   pub first : ℕ
   pub end : ℕ
 
-unfoldable pub keptAt : List ℕ → Judge → ℕ → ℕ → Outcome Kept
-keptAt s j h k = do
+unfoldable pub keptHandlersAt : List ℕ → HandlerJudge → ℕ → ℕ → Outcome KeptHandlers
+keptHandlersAt s j h k = do
   l ← handlersAt s j
   answer (record { count = length (l .handlers); brief = brief k (getD (l .handlers) h nobody); first = l .first; end = l .end })
 
 -- ---- stages of the code
-unfoldable pub keptPairs : List ℕ → Judge → ℕ → ℕ → ℕ → Outcome (Found Pair ℕ)
+unfoldable pub keptPairs : List ℕ → HandlerJudge → ℕ → ℕ → ℕ → Outcome (Found Pair ℕ)
 keptPairs s j from count k = choose count (pairAt s j) nothing k from
 
 pub record Caught : Type 0 where
@@ -114,28 +114,28 @@ pub record Caught : Type 0 where
   pub all : ℕ
   pub next : ℕ
 
-unfoldable pub allAt : List ℕ → Judge → ℤ → ℕ → Outcome Caught
+unfoldable pub allAt : List ℕ → HandlerJudge → ℤ → ℕ → Outcome Caught
 allAt s j size p =
     cond (catches size) (do
       a ← addressAt s j p
       answer (record { caught = true; all = a .item; next = a .next }))
     (answer (record { caught = false; all = 0; next = p }))
 
-unfoldable pub restAt : List ℕ → Judge → ℕ → ℕ → ℤ → ℕ → ℕ → Outcome (Found Brief ℕ)
+unfoldable pub restAt : List ℕ → HandlerJudge → ℕ → ℕ → ℤ → ℕ → ℕ → Outcome (Found Brief ℕ)
 restAt s j offset pairs size from k = do
   q ← keptPairs s j from pairs k
   c ← allAt s j size (q .next)
   answer (record { item = record { offset = offset; pairs = pairs; pair = q .item; caught = c .caught; all = c .all }; next = c .next })
 
-unfoldable pub stagedHandler : List ℕ → Judge → ℕ → ℕ → Outcome (Found Brief ℕ)
+unfoldable pub stagedHandler : List ℕ → HandlerJudge → ℕ → ℕ → Outcome (Found Brief ℕ)
 stagedHandler s j k p = do
   z ← slebAt s (j .item) p
   restAt s j (p - j .base) (magnitude (z .item)) (z .item) (z .next) k
 
-unfoldable pub keptList : List ℕ → Judge → ℕ → ℕ → ℕ → ℕ → Outcome (Found Brief ℕ)
+unfoldable pub keptList : List ℕ → HandlerJudge → ℕ → ℕ → ℕ → ℕ → Outcome (Found Brief ℕ)
 keptList s j from count h k = choose count (handlerAt s j) nobody h from >>= briefly k
 
-unfoldable pub stagedAt : List ℕ → Judge → ℕ → ℕ → Outcome Kept
+unfoldable pub stagedAt : List ℕ → HandlerJudge → ℕ → ℕ → Outcome KeptHandlers
 stagedAt s j h k = do
   n ← ulebAt s (j .item) (j .base)
   given (ltb 0 (n .item)) 17 (j .item) do

@@ -1,13 +1,13 @@
 // The handler list of a code item: for each handler its pairs of a type and an address, and a catch-all.
 // `s` ends where the data section ends, `item` is the place of the code item, `base` that of the list.
-use leb128::Leb;
-use leb128::SignedLeb;
+use leb128::LebAnswer;
+use leb128::SignedLebAnswer;
 use refusal::Refusal;
 ghost use mathlib.Core.Path.{_≡_};
 ghost use mathlib.Core.Bool.{cond};
 ghost use Prim.Native.Nat.{_-_};
 ghost use Rattle.leb128.specs.Answers.{leb-outcome};
-ghost use Rattle.handlers.specs.Handlers.{catches, addressAt, pairAt, keptPairs, allAt, restAt, keptHandler, keptList, keptAt};
+ghost use Rattle.handlers.specs.Handlers.{catches, addressAt, pairAt, keptPairs, allAt, restAt, keptHandler, keptList, keptHandlersAt};
 ghost use Rattle.handlers.specs.Answers.{pair-outcome, all-outcome, brief-outcome, list-outcome};
 
 // The number of a type, and the address of the code that handles it.
@@ -17,7 +17,7 @@ pub struct Pair {
 }
 
 // What items are judged by: how many types there are, how many units, and where the handler list begins.
-pub struct Judge {
+pub struct HandlerJudge {
     pub types: u32,
     pub units: u32,
     pub item: usize,
@@ -33,24 +33,24 @@ pub struct Brief {
     pub all: u32,
 }
 
-pub enum PairFound {
+pub enum PairFoundAnswer {
     Got { pair: Pair, next: usize },
     Refused(Refusal),
 }
 
 // Whether there is a catch-all, and its address.
-pub enum AllFound {
+pub enum CatchAllAnswer {
     Got { caught: bool, all: u32, next: usize },
     Refused(Refusal),
 }
 
-pub enum BriefFound {
+pub enum BriefAnswer {
     Got { brief: Brief, next: usize },
     Refused(Refusal),
 }
 
 // How many handlers, one of them, where the first begins, and the place after the list.
-pub enum ListAnswer {
+pub enum HandlersAnswer {
     Got {
         count: u32,
         brief: Brief,
@@ -71,17 +71,17 @@ fn is_catching(size: i32) -> bool
 }
 
 // An address: below the unit count.
-fn address_at(s: &[u8], j: Judge, at: usize) -> Leb
+fn address_at(s: &[u8], j: HandlerJudge, at: usize) -> LebAnswer
     ensures { λ r. ⌜ leb-outcome r ≡ addressAt (now (s .entry)) j at ⌝ }
 {
     let item = j.item;
     match leb128::uleb(s, at, item) {
-        Leb::Refused(r) => Leb::Refused(r),
-        Leb::Got { value, next } => {
+        LebAnswer::Refused(r) => LebAnswer::Refused(r),
+        LebAnswer::Got { value, next } => {
             if value < j.units {
-                return Leb::Got { value, next };
+                return LebAnswer::Got { value, next };
             }
-            Leb::Refused(Refusal {
+            LebAnswer::Refused(Refusal {
                 number: 17,
                 place: item,
             })
@@ -90,26 +90,26 @@ fn address_at(s: &[u8], j: Judge, at: usize) -> Leb
 }
 
 // A pair: a type, and then an address.
-fn pair_found(s: &[u8], j: Judge, at: usize) -> PairFound
+fn pair_found(s: &[u8], j: HandlerJudge, at: usize) -> PairFoundAnswer
     ensures { λ r. ⌜ pair-outcome r ≡ pairAt (now (s .entry)) j at ⌝ }
 {
     let item = j.item;
     match leb128::uleb(s, at, item) {
-        Leb::Refused(r) => PairFound::Refused(r),
-        Leb::Got { value: kind, next } => {
+        LebAnswer::Refused(r) => PairFoundAnswer::Refused(r),
+        LebAnswer::Got { value: kind, next } => {
             if kind < j.types {
                 return match address_at(s, j, next) {
-                    Leb::Refused(r) => PairFound::Refused(r),
-                    Leb::Got {
+                    LebAnswer::Refused(r) => PairFoundAnswer::Refused(r),
+                    LebAnswer::Got {
                         value: address,
                         next: after,
-                    } => PairFound::Got {
+                    } => PairFoundAnswer::Got {
                         pair: Pair { kind, address },
                         next: after,
                     },
                 };
             }
-            PairFound::Refused(Refusal {
+            PairFoundAnswer::Refused(Refusal {
                 number: 11,
                 place: item,
             })
@@ -128,7 +128,7 @@ fn newer_pair(asked: bool, new: Pair, old: Pair) -> Pair
 }
 
 // All pairs of a handler, of which number k is kept.
-fn pairs_at(s: &[u8], j: Judge, from: usize, count: u32, k: u32) -> PairFound
+fn pairs_at(s: &[u8], j: HandlerJudge, from: usize, count: u32, k: u32) -> PairFoundAnswer
     ensures { λ r. ⌜ pair-outcome r ≡ keptPairs (now (s .entry)) j from count k ⌝ }
 {
     let mut p = from;
@@ -140,10 +140,10 @@ fn pairs_at(s: &[u8], j: Judge, from: usize, count: u32, k: u32) -> PairFound
     let mut left = count;
     while 0 < left {
         match pair_found(s, j, p) {
-            PairFound::Refused(r) => {
-                return PairFound::Refused(r);
+            PairFoundAnswer::Refused(r) => {
+                return PairFoundAnswer::Refused(r);
             }
-            PairFound::Got { pair, next } => {
+            PairFoundAnswer::Got { pair, next } => {
                 kept = newer_pair(i == k, pair, kept);
                 p = next;
             }
@@ -151,27 +151,27 @@ fn pairs_at(s: &[u8], j: Judge, from: usize, count: u32, k: u32) -> PairFound
         i += 1;
         left -= 1;
     }
-    PairFound::Got {
+    PairFoundAnswer::Got {
         pair: kept,
         next: p,
     }
 }
 
 // The catch-all of a handler of this size.
-fn all_at(s: &[u8], j: Judge, size: i32, at: usize) -> AllFound
+fn all_at(s: &[u8], j: HandlerJudge, size: i32, at: usize) -> CatchAllAnswer
     ensures { λ r. ⌜ all-outcome r ≡ allAt (now (s .entry)) j size at ⌝ }
 {
     if is_catching(size) {
         return match address_at(s, j, at) {
-            Leb::Refused(r) => AllFound::Refused(r),
-            Leb::Got { value, next } => AllFound::Got {
+            LebAnswer::Refused(r) => CatchAllAnswer::Refused(r),
+            LebAnswer::Got { value, next } => CatchAllAnswer::Got {
                 caught: true,
                 all: value,
                 next,
             },
         };
     }
-    AllFound::Got {
+    CatchAllAnswer::Got {
         caught: false,
         all: 0,
         next: at,
@@ -191,24 +191,24 @@ fn offset_of(at: usize, base: usize) -> usize
 // What follows a handler's size.
 fn rest_at(
     s: &[u8],
-    j: Judge,
+    j: HandlerJudge,
     offset: usize,
     pairs: u32,
     size: i32,
     from: usize,
     k: u32,
-) -> BriefFound
+) -> BriefAnswer
     ensures { λ r. ⌜ brief-outcome r ≡ restAt (now (s .entry)) j offset pairs size from k ⌝ }
 {
     match pairs_at(s, j, from, pairs, k) {
-        PairFound::Refused(r) => BriefFound::Refused(r),
-        PairFound::Got { pair, next } => match all_at(s, j, size, next) {
-            AllFound::Refused(r) => BriefFound::Refused(r),
-            AllFound::Got {
+        PairFoundAnswer::Refused(r) => BriefAnswer::Refused(r),
+        PairFoundAnswer::Got { pair, next } => match all_at(s, j, size, next) {
+            CatchAllAnswer::Refused(r) => BriefAnswer::Refused(r),
+            CatchAllAnswer::Got {
                 caught,
                 all,
                 next: end,
-            } => BriefFound::Got {
+            } => BriefAnswer::Got {
                 brief: Brief {
                     offset,
                     pairs,
@@ -223,13 +223,13 @@ fn rest_at(
 }
 
 // A handler, of which pair k is kept.
-pub fn handler_found(s: &[u8], j: Judge, at: usize, k: u32) -> BriefFound
+pub fn handler_found(s: &[u8], j: HandlerJudge, at: usize, k: u32) -> BriefAnswer
     ensures { λ r. ⌜ brief-outcome r ≡ keptHandler (now (s .entry)) j k at ⌝ }
 {
     let offset = offset_of(at, j.base);
     match leb128::sleb(s, at, j.item) {
-        SignedLeb::Refused(r) => BriefFound::Refused(r),
-        SignedLeb::Got { value: size, next } => {
+        SignedLebAnswer::Refused(r) => BriefAnswer::Refused(r),
+        SignedLebAnswer::Got { value: size, next } => {
             let pairs = sign::magnitude_of(size);
             rest_at(s, j, offset, pairs, size, next, k)
         }
@@ -247,7 +247,7 @@ fn newer(asked: bool, new: Brief, old: Brief) -> Brief
 }
 
 // All handlers from a place on, of which pair k of handler h is kept.
-fn list_found(s: &[u8], j: Judge, from: usize, count: u32, h: u32, k: u32) -> BriefFound
+fn list_found(s: &[u8], j: HandlerJudge, from: usize, count: u32, h: u32, k: u32) -> BriefAnswer
     ensures { λ r. ⌜ brief-outcome r ≡ keptList (now (s .entry)) j from count h k ⌝ }
 {
     let mut p = from;
@@ -265,10 +265,10 @@ fn list_found(s: &[u8], j: Judge, from: usize, count: u32, h: u32, k: u32) -> Br
     let mut left = count;
     while 0 < left {
         match handler_found(s, j, p, k) {
-            BriefFound::Refused(r) => {
-                return BriefFound::Refused(r);
+            BriefAnswer::Refused(r) => {
+                return BriefAnswer::Refused(r);
             }
-            BriefFound::Got { brief, next } => {
+            BriefAnswer::Got { brief, next } => {
                 kept = newer(i == h, brief, kept);
                 p = next;
             }
@@ -276,27 +276,27 @@ fn list_found(s: &[u8], j: Judge, from: usize, count: u32, h: u32, k: u32) -> Br
         i += 1;
         left -= 1;
     }
-    BriefFound::Got {
+    BriefAnswer::Got {
         brief: kept,
         next: p,
     }
 }
 
 // The handler list, of which pair k of handler h is kept.
-pub fn handlers_at(s: &[u8], j: Judge, h: u32, k: u32) -> ListAnswer
-    ensures { λ r. ⌜ list-outcome r ≡ keptAt (now (s .entry)) j h k ⌝ }
+pub fn handlers_at(s: &[u8], j: HandlerJudge, h: u32, k: u32) -> HandlersAnswer
+    ensures { λ r. ⌜ list-outcome r ≡ keptHandlersAt (now (s .entry)) j h k ⌝ }
 {
     let item = j.item;
     match leb128::uleb(s, j.base, item) {
-        Leb::Refused(r) => ListAnswer::Refused(r),
-        Leb::Got {
+        LebAnswer::Refused(r) => HandlersAnswer::Refused(r),
+        LebAnswer::Got {
             value: count,
             next: first,
         } => {
             if 0 < count {
                 return match list_found(s, j, first, count, h, k) {
-                    BriefFound::Refused(r) => ListAnswer::Refused(r),
-                    BriefFound::Got { brief, next: end } => ListAnswer::Got {
+                    BriefAnswer::Refused(r) => HandlersAnswer::Refused(r),
+                    BriefAnswer::Got { brief, next: end } => HandlersAnswer::Got {
                         count,
                         brief,
                         first,
@@ -304,7 +304,7 @@ pub fn handlers_at(s: &[u8], j: Judge, h: u32, k: u32) -> ListAnswer
                     },
                 };
             }
-            ListAnswer::Refused(Refusal {
+            HandlersAnswer::Refused(Refusal {
                 number: 17,
                 place: item,
             })

@@ -15,8 +15,8 @@ use Rattle.frame.specs.declared.Frame.{Frame}
 use Rattle.frame.specs.Offsets.{AllowedOrAbsent}
 use Rattle.frame.proofs.Laws.{or-absent-decides}
 use Rattle.ids.specs.declared.Handle.{Handle}
-use Rattle.ids.specs.Records.{typeOf, typeAt, typesAt, protoOf, protoAt, memberOf, memberAt, handleOf, handleAt}
-use Rattle.ids.specs.Rules.{TypeRule, TypesRule, ProtoRule, MemberRule, HandleRule}
+use Rattle.ids.specs.Records.{typeOf, typeAt, typesAt, protoOf, protoAt, memberIdOf, memberIdAt, handleOf, handleAt}
+use Rattle.ids.specs.Rules.{TypeRule, TypeTableRule, ProtoRule, MemberIdRule, HandleRule}
 
 module _ (f : List ℕ) (r : Frame) (offset : ℕ) where
   pub type-exact : (n : ℕ) → Exact (typeAt f r offset n) (TypeRule f r offset n)
@@ -26,7 +26,7 @@ module _ (f : List ℕ) (r : Frame) (offset : ℕ) where
       (λ v h. record { stands = h .1; range = subst (λ (x : ℕ). x < r .strings) (h .1) (h .0) })
       (λ v h. (subst (λ (x : ℕ). x < r .strings) (sym (h .stands)) (h .range), h .stands))
 
-  pub types-exact : (count : ℕ) → Exact (typesAt f r offset count) (TypesRule f r offset count)
+  pub types-exact : (count : ℕ) → Exact (typesAt f r offset count) (TypeTableRule f r offset count)
   unfolding typesAt
   types-exact count =
       exact-iff (in-turn-exact (TypeRule f r offset) _<_ (typeAt f r offset) ltb 15 (λ (n : ℕ). offset + 4 * n) type-exact below count)
@@ -37,7 +37,7 @@ module _ (f : List ℕ) (r : Frame) (offset : ℕ) where
   rising = record { never = λ h. omega arith; onward = λ h k. omega arith }
 
   -- no two type numbers name the same string
-  pub types-distinct : {count i k a b : ℕ} {l : List ℕ} → TypesRule f r offset count l → At l i a → At l k b → a ≡ b → i ≡ k
+  pub types-distinct : {count i k a b : ℕ} {l : List ℕ} → TypeTableRule f r offset count l → At l i a → At l k b → a ≡ b → i ≡ k
   types-distinct t m n e = rising-apart rising (t .order) m n (λ h. omega arith) (λ h. omega arith)
 
   pub proto-exact : (end n : ℕ) → Exact (protoAt f r end offset n) (ProtoRule f r end offset n)
@@ -55,13 +55,13 @@ module _ (f : List ℕ) (r : Frame) (offset : ℕ) where
         ),
       ))
 
-  pub member-exact : (kinds n : ℕ) → Exact (memberAt f r kinds offset n) (MemberRule f r kinds offset n)
-  unfolding memberAt memberOf
+  pub member-exact : (kinds n : ℕ) → Exact (memberIdAt f r kinds offset n) (MemberIdRule f r kinds offset n)
+  unfolding memberIdAt memberIdOf
   member-exact kinds n =
       let p = offset + 8 * n in
       exact-iff
       (given-exact 11 p (below (u16At (r .order) f p) (r .types)) (given-exact 11 p (below (u16At (r .order) f (p + 2)) kinds) (given-exact 11 p (below (u32At (r .order) f (p + 4)) (r .strings)) (answer-exact _))))
-      (λ x h. subst (MemberRule f r kinds offset n) (h .1 .1 .1) (record { class = refl; kind = refl; name = refl; class-range = h .0; kind-range = h .1 .0; name-range = h .1 .1 .0 }))
+      (λ x h. subst (MemberIdRule f r kinds offset n) (h .1 .1 .1) (record { class = refl; kind = refl; name = refl; class-range = h .0; kind-range = h .1 .0; name-range = h .1 .1 .0 }))
       (λ x h. (
         subst (λ (v : ℕ). v < r .types) (sym (h .class)) (h .class-range),
         (

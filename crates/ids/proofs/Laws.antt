@@ -7,8 +7,8 @@ use mathlib.Core.List.{List}
 use lib.Dec.{ltb}
 use borrow.Author.Needs.{needs}
 use Rattle.refusal.specs.declared.Refusal.{Refusal}
-use Rattle.refusal.specs.declared.Checked.{Checked}
-use Rattle.refusal.specs.declared.Checked.the-variants as C
+use Rattle.refusal.specs.declared.CheckAnswer.{CheckAnswer}
+use Rattle.refusal.specs.declared.CheckAnswer.the-variants as C
 use Rattle.refusal.specs.Outcome.{Outcome, answer, refused, _>>=_, given, accepted}
 use Rattle.refusal.specs.Answers.{checked-outcome}
 use Rattle.refusal.proofs.Laws.{said, tests, calls}
@@ -17,14 +17,14 @@ use Rattle.refusal.proofs.Kept.{accepted-refused}
 use Rattle.word.specs.Words.{u16At, u32At}
 use Rattle.frame.specs.declared.Frame.{Frame}
 use Rattle.ids.specs.declared.Proto.{Proto}
-use Rattle.ids.specs.declared.Member.{Member}
+use Rattle.ids.specs.declared.MemberId.{MemberId}
 use Rattle.ids.specs.declared.Handle.{Handle}
 use Rattle.ids.specs.declared.IndexAnswer.{IndexAnswer}
 use Rattle.ids.specs.declared.ProtoAnswer.{ProtoAnswer}
-use Rattle.ids.specs.declared.MemberAnswer.{MemberAnswer}
+use Rattle.ids.specs.declared.MemberIdAnswer.{MemberIdAnswer}
 use Rattle.ids.specs.declared.HandleAnswer.{HandleAnswer}
-use Rattle.ids.specs.Records.{typeOf, typeAt, protoOf, protoAt, memberOf, memberAt, memberChecked, handleOf, handleAt}
-use Rattle.ids.specs.Answers.{index-outcome, proto-outcome, member-outcome, handle-outcome}
+use Rattle.ids.specs.Records.{typeOf, typeAt, protoOf, protoAt, memberIdOf, memberIdAt, memberIdChecked, handleOf, handleAt}
+use Rattle.ids.specs.Answers.{index-outcome, proto-outcome, member-id-outcome, handle-outcome}
 
 -- the rules of a field or a method, of which nothing is kept
 unfoldable pub judged : Frame → ℕ → ℕ → ℕ → ℕ → ℕ → Outcome Unit
@@ -35,11 +35,11 @@ judged r kinds place class kind name =
     (answer tt)))
 
 module _ (r : Frame) (kinds place class kind name : ℕ) where
-  abbrev made : Member
+  abbrev made : MemberId
   made = record { class = class; kind = kind; name = name }
 
-  judged-is : judged r kinds place class kind name ≡ (memberOf r kinds place class kind name >>= accepted)
-  unfolding judged memberOf given _>>=_
+  judged-is : judged r kinds place class kind name ≡ (memberIdOf r kinds place class kind name >>= accepted)
+  unfolding judged memberIdOf given _>>=_
   judged-is = go (ltb class (r .types)) (ltb kind kinds) (ltb name (r .strings))
     where
       go : (a b c : Bool) → given a 11 place (given b 11 place (given c 11 place (answer tt))) ≡ (given a 11 place (given b 11 place (given c 11 place (answer made))) >>= accepted)
@@ -49,8 +49,8 @@ module _ (r : Frame) (kinds place class kind name : ℕ) where
       go false b c = refl
 
   -- where they are obeyed, the member is what was read
-  obeyed : answer tt ≡ (memberOf r kinds place class kind name >>= accepted) → answer made ≡ memberOf r kinds place class kind name
-  unfolding memberOf given _>>=_
+  obeyed : answer tt ≡ (memberIdOf r kinds place class kind name >>= accepted) → answer made ≡ memberIdOf r kinds place class kind name
+  unfolding memberIdOf given _>>=_
   obeyed = go (ltb class (r .types)) (ltb kind kinds) (ltb name (r .strings))
     where
       go : (a b c : Bool) → answer tt ≡ (given a 11 place (given b 11 place (given c 11 place (answer made))) >>= accepted) → answer made ≡ given a 11 place (given b 11 place (given c 11 place (answer made)))
@@ -71,17 +71,17 @@ module _ (f : List ℕ) (r : Frame) (offset n : ℕ) where
 
   -- a member's rules, of which nothing is kept
   pub member-by : (kinds : ℕ) {a b c : ℕ} {y : Outcome Unit} → a ≡ u16At (r .order) f (offset + 8 * n) → b ≡ u16At (r .order) f (offset + 8 * n + 2) → c ≡ u32At (r .order) f (offset + 8 * n + 4)
-      → y ≡ judged r kinds (offset + 8 * n) a b c → y ≡ memberChecked f r kinds offset n
-  unfolding memberAt
-  member-by kinds {a} {b} {c} e g k h = h ∙ judged-is r kinds (offset + 8 * n) a b c ∙ (λ i. memberOf r kinds (offset + 8 * n) (e i) (g i) (k i) >>= accepted)
+      → y ≡ judged r kinds (offset + 8 * n) a b c → y ≡ memberIdChecked f r kinds offset n
+  unfolding memberIdAt
+  member-by kinds {a} {b} {c} e g k h = h ∙ judged-is r kinds (offset + 8 * n) a b c ∙ (λ i. memberIdOf r kinds (offset + 8 * n) (e i) (g i) (k i) >>= accepted)
 
-  module _ (kinds : ℕ) {x : Checked} (e : checked-outcome x ≡ memberChecked f r kinds offset n) where
-    pub member-refused : {q : Refusal} → x ≡ C.Refused q → refused q ≡ memberAt f r kinds offset n
-    member-refused t = sym (accepted-refused (memberAt f r kinds offset n) (sym (ap checked-outcome t) ∙ e))
+  module _ (kinds : ℕ) {x : CheckAnswer} (e : checked-outcome x ≡ memberIdChecked f r kinds offset n) where
+    pub member-refused : {q : Refusal} → x ≡ C.Refused q → refused q ≡ memberIdAt f r kinds offset n
+    member-refused t = sym (accepted-refused (memberIdAt f r kinds offset n) (sym (ap checked-outcome t) ∙ e))
 
     pub member-got : {a b c : ℕ} → x ≡ C.Accepted → a ≡ u16At (r .order) f (offset + 8 * n) → b ≡ u16At (r .order) f (offset + 8 * n + 2) → c ≡ u32At (r .order) f (offset + 8 * n + 4)
-        → answer (record { class = a; kind = b; name = c }) ≡ memberAt f r kinds offset n
-    unfolding memberAt
+        → answer (record { class = a; kind = b; name = c }) ≡ memberIdAt f r kinds offset n
+    unfolding memberIdAt
     member-got t g k h =
         (λ i. answer (record { class = g i; kind = k i; name = h i })) ∙ obeyed r kinds (offset + 8 * n) _ _ _ (sym (ap checked-outcome t) ∙ e)
 
@@ -95,8 +95,8 @@ on-index = said index-outcome
 pub on-proto : {B : Type 0} {x c : ProtoAnswer} {o : Outcome Proto} {y : Outcome B} (k : Proto → Outcome B) → proto-outcome x ≡ o → x ≡ c → y ≡ (proto-outcome c >>= k) → y ≡ (o >>= k)
 on-proto = said proto-outcome
 
-pub on-member : {B : Type 0} {x c : MemberAnswer} {o : Outcome Member} {y : Outcome B} (k : Member → Outcome B) → member-outcome x ≡ o → x ≡ c → y ≡ (member-outcome c >>= k) → y ≡ (o >>= k)
-on-member = said member-outcome
+pub on-member : {B : Type 0} {x c : MemberIdAnswer} {o : Outcome MemberId} {y : Outcome B} (k : MemberId → Outcome B) → member-id-outcome x ≡ o → x ≡ c → y ≡ (member-id-outcome c >>= k) → y ≡ (o >>= k)
+on-member = said member-id-outcome
 
 pub on-handle : {B : Type 0} {x c : HandleAnswer} {o : Outcome Handle} {y : Outcome B} (k : Handle → Outcome B) → handle-outcome x ≡ o → x ≡ c → y ≡ (handle-outcome c >>= k) → y ≡ (o >>= k)
 on-handle = said handle-outcome

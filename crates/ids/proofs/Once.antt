@@ -5,13 +5,13 @@ use mathlib.Core.Path.{_≡_, refl}
 use Rattle.refusal.specs.Outcome.{Outcome, answer, refused}
 use Rattle.refusal.proofs.Laws.{one-to-one}
 use Rattle.ids.specs.declared.Proto.{Proto}
-use Rattle.ids.specs.declared.Member.{Member}
+use Rattle.ids.specs.declared.MemberId.{MemberId}
 use Rattle.ids.specs.declared.Handle.{Handle}
 use Rattle.ids.specs.declared.IndexAnswer as I
 use Rattle.ids.specs.declared.ProtoAnswer as P
-use Rattle.ids.specs.declared.MemberAnswer as M
+use Rattle.ids.specs.declared.MemberIdAnswer as M
 use Rattle.ids.specs.declared.HandleAnswer as H
-use Rattle.ids.specs.Answers.{index-outcome, proto-outcome, member-outcome, handle-outcome}
+use Rattle.ids.specs.Answers.{index-outcome, proto-outcome, member-id-outcome, handle-outcome}
 
 index-back : Outcome ℕ → I.IndexAnswer
 index-back (answer a) = I.the-variants.Got a
@@ -37,17 +37,17 @@ proto-told (P.the-variants.Refused r) = refl
 pub proto-once : (x y : P.ProtoAnswer) → proto-outcome x ≡ proto-outcome y → x ≡ y
 proto-once = one-to-one proto-outcome proto-back proto-told
 
-member-back : Outcome Member → M.MemberAnswer
+member-back : Outcome MemberId → M.MemberIdAnswer
 member-back (answer a) = M.the-variants.Got a
 member-back (refused r) = M.the-variants.Refused r
 
-member-told : (x : M.MemberAnswer) → member-back (member-outcome x) ≡ x
+member-told : (x : M.MemberIdAnswer) → member-back (member-id-outcome x) ≡ x
 unfolding member-back
 member-told (M.the-variants.Got a) = refl
 member-told (M.the-variants.Refused r) = refl
 
-pub member-once : (x y : M.MemberAnswer) → member-outcome x ≡ member-outcome y → x ≡ y
-member-once = one-to-one member-outcome member-back member-told
+pub member-once : (x y : M.MemberIdAnswer) → member-id-outcome x ≡ member-id-outcome y → x ≡ y
+member-once = one-to-one member-id-outcome member-back member-told
 
 handle-back : Outcome Handle → H.HandleAnswer
 handle-back (answer a) = H.the-variants.Got a

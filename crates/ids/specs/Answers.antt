@@ -2,11 +2,11 @@
 use Prim.Native.Nat.{ℕ}
 use Rattle.refusal.specs.Outcome.{Outcome, answer, refused}
 use Rattle.ids.specs.declared.Proto.{Proto}
-use Rattle.ids.specs.declared.Member.{Member}
+use Rattle.ids.specs.declared.MemberId.{MemberId}
 use Rattle.ids.specs.declared.Handle.{Handle}
 use Rattle.ids.specs.declared.IndexAnswer as I
 use Rattle.ids.specs.declared.ProtoAnswer as P
-use Rattle.ids.specs.declared.MemberAnswer as M
+use Rattle.ids.specs.declared.MemberIdAnswer as M
 use Rattle.ids.specs.declared.HandleAnswer as H
 
 abbrev pub index-outcome : I.IndexAnswer → Outcome ℕ
@@ -17,9 +17,9 @@ abbrev pub proto-outcome : P.ProtoAnswer → Outcome Proto
 proto-outcome (P.the-variants.Got p) = answer p
 proto-outcome (P.the-variants.Refused r) = refused r
 
-abbrev pub member-outcome : M.MemberAnswer → Outcome Member
-member-outcome (M.the-variants.Got m) = answer m
-member-outcome (M.the-variants.Refused r) = refused r
+abbrev pub member-id-outcome : M.MemberIdAnswer → Outcome MemberId
+member-id-outcome (M.the-variants.Got m) = answer m
+member-id-outcome (M.the-variants.Refused r) = refused r
 
 abbrev pub handle-outcome : H.HandleAnswer → Outcome Handle
 handle-outcome (H.the-variants.Got h) = answer h

@@ -9,7 +9,7 @@ use Rattle.word.specs.Words.{u16At, u32At}
 use Rattle.frame.specs.declared.Frame.{Frame}
 use Rattle.frame.specs.Offsets.{allowedOrAbsent}
 use Rattle.ids.specs.declared.Proto.{Proto}
-use Rattle.ids.specs.declared.Member.{Member}
+use Rattle.ids.specs.declared.MemberId.{MemberId}
 use Rattle.ids.specs.declared.Handle.{Handle}
 
 -- a type is a string number
@@ -35,19 +35,19 @@ unfoldable pub protoAt : List ℕ → Frame → ℕ → ℕ → ℕ → Outcome 
 protoAt f r end offset n = protoOf r end (offset + 12 * n) (u32At (r .order) f (offset + 12 * n)) (u32At (r .order) f (offset + 12 * n + 4)) (u32At (r .order) f (offset + 12 * n + 8))
 
 -- class (11), type or proto (11), name (11)
-unfoldable pub memberOf : Frame → ℕ → ℕ → ℕ → ℕ → ℕ → Outcome Member
-memberOf r kinds place class kind name =
+unfoldable pub memberIdOf : Frame → ℕ → ℕ → ℕ → ℕ → ℕ → Outcome MemberId
+memberIdOf r kinds place class kind name =
     given (ltb class (r .types)) 11 place
     (given (ltb kind kinds) 11 place
     (given (ltb name (r .strings)) 11 place
     (answer (record { class = class; kind = kind; name = name }))))
 
-unfoldable pub memberAt : List ℕ → Frame → ℕ → ℕ → ℕ → Outcome Member
-memberAt f r kinds offset n = memberOf r kinds (offset + 8 * n) (u16At (r .order) f (offset + 8 * n)) (u16At (r .order) f (offset + 8 * n + 2)) (u32At (r .order) f (offset + 8 * n + 4))
+unfoldable pub memberIdAt : List ℕ → Frame → ℕ → ℕ → ℕ → Outcome MemberId
+memberIdAt f r kinds offset n = memberIdOf r kinds (offset + 8 * n) (u16At (r .order) f (offset + 8 * n)) (u16At (r .order) f (offset + 8 * n + 2)) (u32At (r .order) f (offset + 8 * n + 4))
 
 -- a stage of the code: nothing of it is kept but that it obeys its rules
-abbrev pub memberChecked : List ℕ → Frame → ℕ → ℕ → ℕ → Outcome Unit
-memberChecked f r kinds offset n = memberAt f r kinds offset n >>= accepted
+abbrev pub memberIdChecked : List ℕ → Frame → ℕ → ℕ → ℕ → Outcome Unit
+memberIdChecked f r kinds offset n = memberIdAt f r kinds offset n >>= accepted
 
 -- "Handle types 0 to 3 name a field, 4 to 8 a method."
 unfoldable pub handleOf : Frame → ℕ → ℕ → ℕ → Outcome Handle

@@ -8,7 +8,7 @@ use Rattle.word.specs.Words.{u16At, u32At}
 use Rattle.frame.specs.declared.Frame.{Frame}
 use Rattle.frame.specs.Offsets.{AllowedOrAbsent}
 use Rattle.ids.specs.declared.Proto.{Proto}
-use Rattle.ids.specs.declared.Member.{Member}
+use Rattle.ids.specs.declared.MemberId.{MemberId}
 use Rattle.ids.specs.declared.Handle.{Handle}
 
 pub record TypeRule (f : List ℕ) (r : Frame) (offset n string : ℕ) : Type 0 where
@@ -16,7 +16,7 @@ pub record TypeRule (f : List ℕ) (r : Frame) (offset n string : ℕ) : Type 0 
   pub range : string < r .strings
 
 -- for each n below the count type n, and the types rise by their strings
-pub record TypesRule (f : List ℕ) (r : Frame) (offset count : ℕ) (l : List ℕ) : Type 0 where
+pub record TypeTableRule (f : List ℕ) (r : Frame) (offset count : ℕ) (l : List ℕ) : Type 0 where
   pub each : Each (TypeRule f r offset) count l
   pub order : Rising _<_ l
 
@@ -28,7 +28,7 @@ pub record ProtoRule (f : List ℕ) (r : Frame) (end offset n : ℕ) (p : Proto)
   pub return-range : p .«return_type» < r .types
   pub place : AllowedOrAbsent (r .start) end true (p .parameters)
 
-pub record MemberRule (f : List ℕ) (r : Frame) (kinds offset n : ℕ) (m : Member) : Type 0 where
+pub record MemberIdRule (f : List ℕ) (r : Frame) (kinds offset n : ℕ) (m : MemberId) : Type 0 where
   pub class : u16At (r .order) f (offset + 8 * n) ≡ m .class
   pub kind : u16At (r .order) f (offset + 8 * n + 2) ≡ m .kind
   pub name : u32At (r .order) f (offset + 8 * n + 4) ≡ m .name

@@ -1,11 +1,11 @@
 // The records of types, protos, fields, methods and method handles. Each is read by where its table begins and its number in it.
 use frame::Frame;
-use refusal::Checked;
+use refusal::CheckAnswer;
 use refusal::Refusal;
 ghost use mathlib.Core.Path.{_≡_};
 ghost use Rattle.refusal.specs.Answers.{checked-outcome};
-ghost use Rattle.ids.specs.Records.{typeAt, protoAt, memberAt, memberChecked, handleAt};
-ghost use Rattle.ids.specs.Answers.{index-outcome, proto-outcome, member-outcome, handle-outcome};
+ghost use Rattle.ids.specs.Records.{typeAt, protoAt, memberIdAt, memberIdChecked, handleAt};
+ghost use Rattle.ids.specs.Answers.{index-outcome, proto-outcome, member-id-outcome, handle-outcome};
 
 pub enum IndexAnswer {
     Got(u32),
@@ -25,14 +25,14 @@ pub enum ProtoAnswer {
 }
 
 // A field or a method: its class, its type or proto, and its name.
-pub struct Member {
+pub struct MemberId {
     pub class: u32,
     pub kind: u32,
     pub name: u32,
 }
 
-pub enum MemberAnswer {
-    Got(Member),
+pub enum MemberIdAnswer {
+    Got(MemberId),
     Refused(Refusal),
 }
 
@@ -86,8 +86,8 @@ pub fn proto_at(f: &[u8], r: Frame, end: usize, offset: u32, n: u32) -> ProtoAns
 }
 
 // A field's or a method's own rules: `kinds` is how many types or protos there are. Nothing is handed out, so that a loop over them copies nothing.
-pub fn check_member(f: &[u8], r: Frame, kinds: u32, offset: u32, n: u32) -> Checked
-    ensures { λ a. ⌜ checked-outcome a ≡ memberChecked (now (f .entry)) r kinds offset n ⌝ }
+pub fn check_member(f: &[u8], r: Frame, kinds: u32, offset: u32, n: u32) -> CheckAnswer
+    ensures { λ a. ⌜ checked-outcome a ≡ memberIdChecked (now (f .entry)) r kinds offset n ⌝ }
 {
     let order = r.order;
     let place = offset as usize + 8 * n as usize;
@@ -95,26 +95,26 @@ pub fn check_member(f: &[u8], r: Frame, kinds: u32, offset: u32, n: u32) -> Chec
     let kind = word::u16_at(f, place + 2, order) as u32;
     let name = word::u32_at(f, place + 4, order);
     if r.types <= class {
-        return Checked::Refused(Refusal { number: 11, place });
+        return CheckAnswer::Refused(Refusal { number: 11, place });
     }
     if kinds <= kind {
-        return Checked::Refused(Refusal { number: 11, place });
+        return CheckAnswer::Refused(Refusal { number: 11, place });
     }
     if r.strings <= name {
-        return Checked::Refused(Refusal { number: 11, place });
+        return CheckAnswer::Refused(Refusal { number: 11, place });
     }
-    Checked::Accepted
+    CheckAnswer::Accepted
 }
 
 // A field or a method, where it obeys them.
-pub fn member_at(f: &[u8], r: Frame, kinds: u32, offset: u32, n: u32) -> MemberAnswer
-    ensures { λ a. ⌜ member-outcome a ≡ memberAt (now (f .entry)) r kinds offset n ⌝ }
+pub fn member_at(f: &[u8], r: Frame, kinds: u32, offset: u32, n: u32) -> MemberIdAnswer
+    ensures { λ a. ⌜ member-id-outcome a ≡ memberIdAt (now (f .entry)) r kinds offset n ⌝ }
 {
     let order = r.order;
     let place = offset as usize + 8 * n as usize;
     match check_member(f, r, kinds, offset, n) {
-        Checked::Refused(a) => MemberAnswer::Refused(a),
-        Checked::Accepted => MemberAnswer::Got(Member {
+        CheckAnswer::Refused(a) => MemberIdAnswer::Refused(a),
+        CheckAnswer::Accepted => MemberIdAnswer::Got(MemberId {
             class: word::u16_at(f, place, order) as u32,
             kind: word::u16_at(f, place + 2, order) as u32,
             name: word::u32_at(f, place + 4, order),

@@ -1,31 +1,31 @@
 // Kinds 16 to 24: debug information, class data and code items. Their answers have the words of the readers' answers.
 use class_data::DataAnswer;
 use class_data::MemberAnswer;
-use class_readers::MaybeData;
-use class_readers::MaybeMember;
+use class_readers::MaybeDataAnswer;
+use class_readers::MaybeMemberAnswer;
 use code_item::CodeAnswer;
 use code_item::HandlerAnswer;
 use code_item::PairAnswer;
 use code_item::TryAnswer;
-use code_readers::MaybeCode;
-use code_readers::MaybeHandler;
-use code_readers::MaybePair;
-use code_readers::MaybeTry;
+use code_readers::MaybeCodeAnswer;
+use code_readers::MaybeHandlerAnswer;
+use code_readers::MaybePairAnswer;
+use code_readers::MaybeTryAnswer;
 use debug_info::DebugAnswer;
 use debug_info::NameAnswer;
-use debug_readers::MaybeDebug;
-use debug_readers::MaybeName;
+use debug_readers::MaybeDebugAnswer;
+use debug_readers::MaybeNameAnswer;
 use frame::Frame;
 
-fn debug(a: DebugAnswer) -> MaybeDebug {
+fn debug(a: DebugAnswer) -> MaybeDebugAnswer {
     match a {
-        DebugAnswer::Refused(r) => MaybeDebug::Refused(r),
+        DebugAnswer::Refused(r) => MaybeDebugAnswer::Refused(r),
         DebugAnswer::Got {
             line,
             names,
             start,
             length,
-        } => MaybeDebug::Got {
+        } => MaybeDebugAnswer::Got {
             line,
             names,
             start,
@@ -34,57 +34,57 @@ fn debug(a: DebugAnswer) -> MaybeDebug {
     }
 }
 
-fn name(a: NameAnswer) -> MaybeName {
+fn name(a: NameAnswer) -> MaybeNameAnswer {
     match a {
-        NameAnswer::Refused(r) => MaybeName::Refused(r),
-        NameAnswer::Got(n) => MaybeName::Got(n),
+        NameAnswer::Refused(r) => MaybeNameAnswer::Refused(r),
+        NameAnswer::Got(n) => MaybeNameAnswer::Got(n),
     }
 }
 
-fn member(a: MemberAnswer) -> MaybeMember {
+fn member(a: MemberAnswer) -> MaybeMemberAnswer {
     match a {
-        MemberAnswer::Refused(r) => MaybeMember::Refused(r),
-        MemberAnswer::Got(m) => MaybeMember::Got(m),
+        MemberAnswer::Refused(r) => MaybeMemberAnswer::Refused(r),
+        MemberAnswer::Got(m) => MaybeMemberAnswer::Got(m),
     }
 }
 
 // The counts, and where the class data ends.
 fn data_row(a: DataAnswer) -> [u64; 20] {
     match a {
-        DataAnswer::Refused(r) => answer_rows::data_row(MaybeData::Refused(r)),
+        DataAnswer::Refused(r) => answer_rows::data_row(MaybeDataAnswer::Refused(r)),
         DataAnswer::Got { counts, end } => {
-            let mut row = answer_rows::data_row(MaybeData::Got(counts));
+            let mut row = answer_rows::data_row(MaybeDataAnswer::Got(counts));
             row[5] = end as u64;
             row
         }
     }
 }
 
-fn code(a: CodeAnswer) -> MaybeCode {
+fn code(a: CodeAnswer) -> MaybeCodeAnswer {
     match a {
-        CodeAnswer::Refused(r) => MaybeCode::Refused(r),
-        CodeAnswer::Got(o) => MaybeCode::Got(o),
+        CodeAnswer::Refused(r) => MaybeCodeAnswer::Refused(r),
+        CodeAnswer::Got(o) => MaybeCodeAnswer::Got(o),
     }
 }
 
-fn attempt(a: TryAnswer) -> MaybeTry {
+fn attempt(a: TryAnswer) -> MaybeTryAnswer {
     match a {
-        TryAnswer::Refused(r) => MaybeTry::Refused(r),
-        TryAnswer::Got { attempt, number } => MaybeTry::Got { attempt, number },
+        TryAnswer::Refused(r) => MaybeTryAnswer::Refused(r),
+        TryAnswer::Got { attempt, number } => MaybeTryAnswer::Got { attempt, number },
     }
 }
 
-fn handler(a: HandlerAnswer) -> MaybeHandler {
+fn handler(a: HandlerAnswer) -> MaybeHandlerAnswer {
     match a {
-        HandlerAnswer::Refused(r) => MaybeHandler::Refused(r),
-        HandlerAnswer::Got { offset, pairs, all } => MaybeHandler::Got { offset, pairs, all },
+        HandlerAnswer::Refused(r) => MaybeHandlerAnswer::Refused(r),
+        HandlerAnswer::Got { offset, pairs, all } => MaybeHandlerAnswer::Got { offset, pairs, all },
     }
 }
 
-fn pair(a: PairAnswer) -> MaybePair {
+fn pair(a: PairAnswer) -> MaybePairAnswer {
     match a {
-        PairAnswer::Refused(r) => MaybePair::Refused(r),
-        PairAnswer::Got(p) => MaybePair::Got(p),
+        PairAnswer::Refused(r) => MaybePairAnswer::Refused(r),
+        PairAnswer::Got(p) => MaybePairAnswer::Got(p),
     }
 }
 

@@ -1,21 +1,21 @@
 // Kinds 32 to 43: annotation items, sets, reference lists, directories, and all that lies below them.
-use annotation_directories::HeadAnswer;
-use annotation_items::Visibility;
-use annotation_lists::Word;
+use annotation_directories::DirectoryHeadAnswer;
+use annotation_items::VisibilityAnswer;
+use annotation_lists::WordAnswer;
 use directory_readers::DirectoryAnswer;
 use frame::Frame;
 
-fn visibility(v: Visibility) -> Word {
+fn visibility(v: VisibilityAnswer) -> WordAnswer {
     match v {
-        Visibility::Refused(r) => Word::Refused(r),
-        Visibility::Got(n) => Word::Got(n as u32),
+        VisibilityAnswer::Refused(r) => WordAnswer::Refused(r),
+        VisibilityAnswer::Got(n) => WordAnswer::Got(n as u32),
     }
 }
 
-fn directory(h: HeadAnswer) -> DirectoryAnswer {
+fn directory(h: DirectoryHeadAnswer) -> DirectoryAnswer {
     match h {
-        HeadAnswer::Refused(r) => DirectoryAnswer::Refused(r),
-        HeadAnswer::Got(d) => DirectoryAnswer::Got(d),
+        DirectoryHeadAnswer::Refused(r) => DirectoryAnswer::Refused(r),
+        DirectoryHeadAnswer::Got(d) => DirectoryAnswer::Got(d),
     }
 }
 

@@ -1,13 +1,13 @@
 // Kinds 0 to 4: LEB128 numbers and texts.
-use class_readers::MaybeCount;
+use class_readers::MaybeCountAnswer;
 use code_units::UnitsAnswer;
 use decoded_value::Value;
-use leb128::Leb;
-use leb128::PlusOne;
-use leb128::SignedLeb;
+use leb128::LebAnswer;
+use leb128::PlusOneAnswer;
+use leb128::SignedLebAnswer;
 use refusal::Refusal;
 use text_order::Order;
-use value_bodies::Picked;
+use value_bodies::PickedAnswer;
 
 // An answer of four words, and a refusal.
 pub(crate) fn four(a: u64, b: u64, c: u64, d: u64) -> [u64; 20] {
@@ -15,22 +15,22 @@ pub(crate) fn four(a: u64, b: u64, c: u64, d: u64) -> [u64; 20] {
 }
 
 pub(crate) fn refused(r: Refusal) -> [u64; 20] {
-    answer_rows::size_row(value_bodies::Count::Refused(r))
+    answer_rows::size_row(value_bodies::BodySizeAnswer::Refused(r))
 }
 
 fn unsigned(s: &[u8], at: usize, item: usize) -> [u64; 20] {
     match leb128::uleb(s, at, item) {
-        Leb::Refused(r) => refused(r),
-        Leb::Got { value, next } => four(value as u64, next as u64, 0, 0),
+        LebAnswer::Refused(r) => refused(r),
+        LebAnswer::Got { value, next } => four(value as u64, next as u64, 0, 0),
     }
 }
 
 // As an int value, with its magnitude and the place after it.
 fn signed(s: &[u8], at: usize, item: usize) -> [u64; 20] {
     match leb128::sleb(s, at, item) {
-        SignedLeb::Refused(r) => refused(r),
-        SignedLeb::Got { value, next } => {
-            let row = answer_rows::picked_row(Picked::Got(Value::Int(value)));
+        SignedLebAnswer::Refused(r) => refused(r),
+        SignedLebAnswer::Got { value, next } => {
+            let row = answer_rows::picked_row(PickedAnswer::Got(Value::Int(value)));
             four(
                 row[1],
                 row[2],
@@ -44,9 +44,9 @@ fn signed(s: &[u8], at: usize, item: usize) -> [u64; 20] {
 // Is there a number, the number, and the place after it.
 fn plus_one(s: &[u8], at: usize, item: usize) -> [u64; 20] {
     match leb128::uleb_p1(s, at, item) {
-        PlusOne::Refused(r) => refused(r),
-        PlusOne::Absent { next } => four(0, 0, next as u64, 0),
-        PlusOne::Got { value, next } => four(1, value as u64, next as u64, 0),
+        PlusOneAnswer::Refused(r) => refused(r),
+        PlusOneAnswer::Absent { next } => four(0, 0, next as u64, 0),
+        PlusOneAnswer::Got { value, next } => four(1, value as u64, next as u64, 0),
     }
 }
 
@@ -77,7 +77,7 @@ pub(crate) fn row(s: &[u8], kind: u8, a: usize, b: usize) -> [u64; 20] {
 
 pub(crate) fn written_row(a: UnitsAnswer) -> [u64; 20] {
     match a {
-        UnitsAnswer::Refused(r) => answer_rows::written_row(MaybeCount::Refused(r)),
-        UnitsAnswer::Written(n) => answer_rows::written_row(MaybeCount::Got(n as usize)),
+        UnitsAnswer::Refused(r) => answer_rows::written_row(MaybeCountAnswer::Refused(r)),
+        UnitsAnswer::Written(n) => answer_rows::written_row(MaybeCountAnswer::Got(n as usize)),
     }
 }

@@ -1,10 +1,10 @@
 // Kinds 8 to 13: a value inside a body, and bodies by number.
 use super::numbers;
-use decoded_value::Decoded;
+use decoded_value::DecodedAnswer;
 use decoded_value::Value;
-use encoded_value::Step;
-use value_bodies::Head;
-use value_bodies::Picked;
+use encoded_value::StepAnswer;
+use value_bodies::AnnotationHeadAnswer;
+use value_bodies::PickedAnswer;
 use value_heads::Walk;
 
 fn single(value: f32) -> u64 {
@@ -54,9 +54,9 @@ fn float_of(v: Value) -> u64 {
 // A value's words, then the place after it and what float it is.
 fn decoded(s: &[u8], w: Walk, at: usize, left: u32) -> [u64; 20] {
     match decoded_value::decode_at(s, w, at, left) {
-        Decoded::Refused(r) => numbers::refused(r),
-        Decoded::Got { value, next } => {
-            let mut row = answer_rows::picked_row(Picked::Got(value));
+        DecodedAnswer::Refused(r) => numbers::refused(r),
+        DecodedAnswer::Got { value, next } => {
+            let mut row = answer_rows::picked_row(PickedAnswer::Got(value));
             row[4] = next as u64;
             row[5] = float_of(value);
             row
@@ -66,15 +66,20 @@ fn decoded(s: &[u8], w: Walk, at: usize, left: u32) -> [u64; 20] {
 
 fn gone_over(s: &[u8], w: Walk, at: usize, left: u32) -> [u64; 20] {
     match encoded_value::value(s, w, at, left) {
-        Step::Refused(r) => numbers::refused(r),
-        Step::Next(next) => numbers::four(next as u64, 0, 0, 0),
+        StepAnswer::Refused(r) => numbers::refused(r),
+        StepAnswer::Next(next) => numbers::four(next as u64, 0, 0, 0),
     }
 }
 
 fn head(s: &[u8], w: Walk, at: usize) -> [u64; 20] {
     match value_bodies::annotation_head(s, w, at) {
-        Head::Refused(r) => numbers::refused(r),
-        Head::Got { type_index, count } => numbers::four(type_index as u64, count as u64, 0, 0),
+        AnnotationHeadAnswer::Refused(r) => numbers::refused(r),
+        AnnotationHeadAnswer::Got { type_index, count } => numbers::four(
+            type_index as u64,
+            count as u64,
+            0,
+            0,
+        ),
     }
 }
 

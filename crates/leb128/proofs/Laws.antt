@@ -25,13 +25,13 @@ use Rattle.refusal.proofs.Rows.{after, after-none, after-front}
 use Rattle.leb128.specs.Leb.{bytesAt, weight, scale, fifth, signed, less-one, ulebAt, slebAt, plusOneAt, Weighing, weighing, weighedAt}
 use Rattle.leb128.specs.Rules.{Bytes}
 use Rattle.leb128.specs.Answers.{weighed-outcome, leb-outcome, signed-outcome, plus-one-outcome}
-use Rattle.leb128.specs.declared.Weighed.{Weighed}
-use Rattle.leb128.specs.declared.Weighed.the-variants.{Got, Refused}
-use Rattle.leb128.specs.declared.Leb.{Leb}
-use Rattle.leb128.specs.declared.Leb.the-variants as L
-use Rattle.leb128.specs.declared.SignedLeb.the-variants as S
-use Rattle.leb128.specs.declared.SignedLeb.{SignedLeb}
-use Rattle.leb128.specs.declared.PlusOne.{PlusOne}
+use Rattle.leb128.specs.declared.WeighedAnswer.{WeighedAnswer}
+use Rattle.leb128.specs.declared.WeighedAnswer.the-variants.{Got, Refused}
+use Rattle.leb128.specs.declared.LebAnswer.{LebAnswer}
+use Rattle.leb128.specs.declared.LebAnswer.the-variants as L
+use Rattle.leb128.specs.declared.SignedLebAnswer.the-variants as S
+use Rattle.leb128.specs.declared.SignedLebAnswer.{SignedLebAnswer}
+use Rattle.leb128.specs.declared.PlusOneAnswer.{PlusOneAnswer}
 use Rattle.leb128.proofs.Weights.{weight-small, scale-more, weight-more, Fifth, fifth-byte}
 use Rattle.leb128.proofs.Exactly.{number-exact, uleb-exact, sleb-exact, plus-one-exact}
 
@@ -160,7 +160,7 @@ record Behind (s : List ℕ) (item at v m n : ℕ) : Type 0 where
   fifth-is : Fifth bs
 
 module _ (s : List ℕ) (item at : ℕ) where
-  behind : {x : Weighed} {v m n : ℕ} → weighed-outcome x ≡ weighedAt s item at → x ≡ Got v m n → Behind s item at v m n
+  behind : {x : WeighedAnswer} {v m n : ℕ} → weighed-outcome x ≡ weighedAt s item at → x ≡ Got v m n → Behind s item at v m n
   unfolding weighedAt
   behind {v = v} {m = m} {n = n} e t =
       let rule = bind-exact _ (λ (r : Found (List ℕ) ℕ) (w : Weighing). record { value = weight (r .item); full = scale (r .item); next = r .next } ≡ w) (number-exact s item at) (λ r. answer-exact _) in
@@ -174,7 +174,7 @@ module _ (s : List ℕ) (item at : ℕ) where
         fifth-is = fifth-byte (found .0 .item) (found .1 .0 .groups);
       }
 
-  unread : {x : Weighed} {r : Refusal} → weighed-outcome x ≡ weighedAt s item at → x ≡ Refused r → bytesAt 5 s item at ≡ refused r
+  unread : {x : WeighedAnswer} {r : Refusal} → weighed-outcome x ≡ weighedAt s item at → x ≡ Refused r → bytesAt 5 s item at ≡ refused r
   unfolding weighedAt _>>=_
   unread {r = r} e t = go (bytesAt 5 s item at) (sym (ap weighed-outcome t) ∙ e)
     where
@@ -183,7 +183,7 @@ module _ (s : List ℕ) (item at : ℕ) where
       go (refused q) h = cc
 
   -- the unsigned number
-  module _ {x : Weighed} (e : weighed-outcome x ≡ weighedAt s item at) where
+  module _ {x : WeighedAnswer} (e : weighed-outcome x ≡ weighedAt s item at) where
     pub uleb-refused : {r : Refusal} → x ≡ Refused r → refused r ≡ ulebAt s item at
     unfolding ulebAt
     uleb-refused t = sym (bind-refused _ (unread e t))
@@ -342,22 +342,22 @@ module _ (s : List ℕ) (item p : ℕ) where
   plus-one-span {r} e = span (plus-one-exact s item p .sound r e .uleb .bytes)
 
   -- the same, from the arm that was taken
-  pub leb-span : {x : Leb} {v n : ℕ} → leb-outcome x ≡ ulebAt s item p → x ≡ L.Got v n → Span s p n
+  pub leb-span : {x : LebAnswer} {v n : ℕ} → leb-outcome x ≡ ulebAt s item p → x ≡ L.Got v n → Span s p n
   leb-span e t = uleb-span (sym (sym (ap leb-outcome t) ∙ e))
 
-  pub signed-span : {x : SignedLeb} {v : ℤ} {n : ℕ} → signed-outcome x ≡ slebAt s item p → x ≡ S.Got v n → Span s p n
+  pub signed-span : {x : SignedLebAnswer} {v : ℤ} {n : ℕ} → signed-outcome x ≡ slebAt s item p → x ≡ S.Got v n → Span s p n
   signed-span e t = sleb-span (sym (sym (ap signed-outcome t) ∙ e))
 
 -- ---- a call's answer, by the arm that was taken
-pub on-leb : {B : Type 0} {x c : Leb} {o : Outcome (Found ℕ ℕ)} {y : Outcome B} (k : Found ℕ ℕ → Outcome B)
+pub on-leb : {B : Type 0} {x c : LebAnswer} {o : Outcome (Found ℕ ℕ)} {y : Outcome B} (k : Found ℕ ℕ → Outcome B)
     → leb-outcome x ≡ o → x ≡ c → y ≡ (leb-outcome c >>= k) → y ≡ (o >>= k)
 on-leb = said leb-outcome
 
-pub on-signed : {B : Type 0} {x c : SignedLeb} {o : Outcome (Found ℤ ℕ)} {y : Outcome B} (k : Found ℤ ℕ → Outcome B)
+pub on-signed : {B : Type 0} {x c : SignedLebAnswer} {o : Outcome (Found ℤ ℕ)} {y : Outcome B} (k : Found ℤ ℕ → Outcome B)
     → signed-outcome x ≡ o → x ≡ c → y ≡ (signed-outcome c >>= k) → y ≡ (o >>= k)
 on-signed = said signed-outcome
 
-pub on-plus-one : {B : Type 0} {x c : PlusOne} {o : Outcome (Found (Option ℕ) ℕ)} {y : Outcome B} (k : Found (Option ℕ) ℕ → Outcome B)
+pub on-plus-one : {B : Type 0} {x c : PlusOneAnswer} {o : Outcome (Found (Option ℕ) ℕ)} {y : Outcome B} (k : Found (Option ℕ) ℕ → Outcome B)
     → plus-one-outcome x ≡ o → x ≡ c → y ≡ (plus-one-outcome c >>= k) → y ≡ (o >>= k)
 on-plus-one = said plus-one-outcome
 

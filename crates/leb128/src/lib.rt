@@ -6,29 +6,29 @@ ghost use Rattle.leb128.specs.Leb.{ulebAt, slebAt, plusOneAt, weighedAt}
 ghost use Rattle.leb128.specs.Answers.{weighed-outcome, leb-outcome, signed-outcome, plus-one-outcome};
 
 // The low seven bits of one to five bytes joined, and 128 to the count of the bytes.
-pub enum Weighed {
+pub enum WeighedAnswer {
     Got { value: u64, scale: u64, next: usize },
     Refused(Refusal),
 }
 
-pub enum Leb {
+pub enum LebAnswer {
     Got { value: u32, next: usize },
     Refused(Refusal),
 }
 
-pub enum SignedLeb {
+pub enum SignedLebAnswer {
     Got { value: i32, next: usize },
     Refused(Refusal),
 }
 
-pub enum PlusOne {
+pub enum PlusOneAnswer {
     Got { value: u32, next: usize },
     Absent { next: usize },
     Refused(Refusal),
 }
 
 // The bytes of a number: 9 where the data ends before their last, 10 where the fifth is not the last.
-fn weigh(s: &[u8], at: usize, item: usize) -> Weighed
+fn weigh(s: &[u8], at: usize, item: usize) -> WeighedAnswer
     ensures { λ r. ⌜ weighed-outcome r ≡ weighedAt (now (s .entry)) item at ⌝ }
 {
     let mut p = at;
@@ -37,7 +37,7 @@ fn weigh(s: &[u8], at: usize, item: usize) -> Weighed
     let mut left: u32 = 5;
     while 0 < left {
         if s.len() <= p {
-            return Weighed::Refused(Refusal {
+            return WeighedAnswer::Refused(Refusal {
                 number: 9,
                 place: item,
             });
@@ -46,7 +46,7 @@ fn weigh(s: &[u8], at: usize, item: usize) -> Weighed
         let low = b % 128;
         p += 1;
         if b < 128 {
-            return Weighed::Got {
+            return WeighedAnswer::Got {
                 value: value + scale * low,
                 scale: scale * 128,
                 next: p,
@@ -56,39 +56,39 @@ fn weigh(s: &[u8], at: usize, item: usize) -> Weighed
         scale *= 128;
         left -= 1;
     }
-    Weighed::Refused(Refusal {
+    WeighedAnswer::Refused(Refusal {
         number: 10,
         place: item,
     })
 }
 
 // An unsigned number. Most have one byte, which is the number: that case comes first and calls nothing.
-pub fn uleb(s: &[u8], at: usize, item: usize) -> Leb
+pub fn uleb(s: &[u8], at: usize, item: usize) -> LebAnswer
     ensures { λ r. ⌜ leb-outcome r ≡ ulebAt (now (s .entry)) item at ⌝ }
 {
     if at < s.len() {
         let only = s[at];
         if only < 128 {
-            return Leb::Got {
+            return LebAnswer::Got {
                 value: only as u32,
                 next: at + 1,
             };
         }
     }
     match weigh(s, at, item) {
-        Weighed::Refused(r) => Leb::Refused(r),
-        Weighed::Got {
+        WeighedAnswer::Refused(r) => LebAnswer::Refused(r),
+        WeighedAnswer::Got {
             value,
             scale: _,
             next,
         } => {
             if value < 4294967296 {
-                return Leb::Got {
+                return LebAnswer::Got {
                     value: value as u32,
                     next,
                 };
             }
-            Leb::Refused(Refusal {
+            LebAnswer::Refused(Refusal {
                 number: 10,
                 place: item,
             })
@@ -97,36 +97,36 @@ pub fn uleb(s: &[u8], at: usize, item: usize) -> Leb
 }
 
 // A signed number: what was read, less the scale where the highest bit read is set. One byte comes first here too.
-pub fn sleb(s: &[u8], at: usize, item: usize) -> SignedLeb
+pub fn sleb(s: &[u8], at: usize, item: usize) -> SignedLebAnswer
     ensures { λ r. ⌜ signed-outcome r ≡ slebAt (now (s .entry)) item at ⌝ }
 {
     if at < s.len() {
         let only = s[at];
         if only < 64 {
-            return SignedLeb::Got {
+            return SignedLebAnswer::Got {
                 value: only as i32,
                 next: at + 1,
             };
         }
         if only < 128 {
             let low = (127 - only) as i32;
-            return SignedLeb::Got {
+            return SignedLebAnswer::Got {
                 value: -1 - low,
                 next: at + 1,
             };
         }
     }
     match weigh(s, at, item) {
-        Weighed::Refused(r) => SignedLeb::Refused(r),
-        Weighed::Got { value, scale, next } => {
+        WeighedAnswer::Refused(r) => SignedLebAnswer::Refused(r),
+        WeighedAnswer::Got { value, scale, next } => {
             if 2 * value < scale {
                 if value < 2147483648 {
-                    return SignedLeb::Got {
+                    return SignedLebAnswer::Got {
                         value: value as i32,
                         next,
                     };
                 }
-                return SignedLeb::Refused(Refusal {
+                return SignedLebAnswer::Refused(Refusal {
                     number: 10,
                     place: item,
                 });
@@ -134,12 +134,12 @@ pub fn sleb(s: &[u8], at: usize, item: usize) -> SignedLeb
             let below = scale - value;
             if below <= 2147483648 {
                 let low = (below - 1) as i32;
-                return SignedLeb::Got {
+                return SignedLebAnswer::Got {
                     value: -1 - low,
                     next,
                 };
             }
-            SignedLeb::Refused(Refusal {
+            SignedLebAnswer::Refused(Refusal {
                 number: 10,
                 place: item,
             })
@@ -148,19 +148,19 @@ pub fn sleb(s: &[u8], at: usize, item: usize) -> SignedLeb
 }
 
 // A plus-one number: none when 0, otherwise one less.
-pub fn uleb_p1(s: &[u8], at: usize, item: usize) -> PlusOne
+pub fn uleb_p1(s: &[u8], at: usize, item: usize) -> PlusOneAnswer
     ensures { λ r. ⌜ plus-one-outcome r ≡ plusOneAt (now (s .entry)) item at ⌝ }
 {
     match uleb(s, at, item) {
-        Leb::Refused(r) => PlusOne::Refused(r),
-        Leb::Got { value, next } => {
+        LebAnswer::Refused(r) => PlusOneAnswer::Refused(r),
+        LebAnswer::Got { value, next } => {
             if 0 < value {
-                return PlusOne::Got {
+                return PlusOneAnswer::Got {
                     value: value - 1,
                     next,
                 };
             }
-            PlusOne::Absent { next }
+            PlusOneAnswer::Absent { next }
         }
     }
 }

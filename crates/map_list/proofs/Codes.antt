@@ -12,7 +12,7 @@ use borrow.Author.Needs.{needs}
 use native.Mathlib.Numerals.{add-one}
 use native.Mathlib.Omega.{arith}
 use Rattle.refusal.specs.Exact.{At, here, there}
-use Rattle.map_list.specs.Codes.{codes, placeIn, codeOf}
+use Rattle.map_list.specs.Codes.{codes, placeIn, mapCodeNumber}
 
 place-most : (l : List ℕ) (x : ℕ) → placeIn l x ≤ length l
 unfolding placeIn
@@ -42,21 +42,21 @@ place-found (there {a = x} {b = c} {l = l} m) = go (eqb c x) (place-found m)
     go true h = omega arith
     go false h = omega arith
 
-pub code-there : (kind : ℕ) → codeOf kind < 21 → At codes (codeOf kind) kind
-unfolding codeOf codes
+pub code-there : (kind : ℕ) → mapCodeNumber kind < 21 → At codes (mapCodeNumber kind) kind
+unfolding mapCodeNumber codes
 code-there kind p = place-there codes kind p
 
-pub code-found : {i kind : ℕ} → At codes i kind → codeOf kind < 21
-unfolding codeOf codes
+pub code-found : {i kind : ℕ} → At codes i kind → mapCodeNumber kind < 21
+unfolding mapCodeNumber codes
 code-found m = place-found m
 
 -- ---- the loop of `code_of`: the first i codes are others
 pub record Searching (kind i : ℕ) : Type 0 where
   inside : i ≤ 21
-  same : codeOf kind ≡ i + placeIn (drop i codes) kind
+  same : mapCodeNumber kind ≡ i + placeIn (drop i codes) kind
 
 pub searching-first : (kind : ℕ) → Searching kind 0
-unfolding codeOf
+unfolding mapCodeNumber
 searching-first kind = record { inside = omega arith; same = omega arith }
 
 module _ {kind i : ℕ} (h : Searching kind i) where
@@ -64,7 +64,7 @@ module _ {kind i : ℕ} (h : Searching kind i) where
   unfolding codes
   at-code p = rw (add-one, drop-cons codes i 0)
 
-  pub searching-hit : i < 21 → getD codes i 0 ≡ kind → i ≡ codeOf kind
+  pub searching-hit : i < 21 → getD codes i 0 ≡ kind → i ≡ mapCodeNumber kind
   unfolding placeIn
   searching-hit p e = sym (h .same ∙ rw (at-code p, eq-eqb (getD codes i 0) kind e) (omega arith))
 
@@ -72,7 +72,7 @@ module _ {kind i : ℕ} (h : Searching kind i) where
   unfolding placeIn
   searching-miss p n = record { inside = omega arith; same = h .same ∙ rw (at-code p, ne-eqb (getD codes i 0) kind n) (omega arith) }
 
-  pub searching-done : 21 ≤ i → 21 ≡ codeOf kind
+  pub searching-done : 21 ≤ i → 21 ≡ mapCodeNumber kind
   unfolding placeIn codes
   searching-done p = sym (h .same ∙ rw (drop-of-length-le codes p) (let z = h .inside in omega arith))
 

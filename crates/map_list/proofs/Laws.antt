@@ -20,13 +20,13 @@ use Rattle.header.specs.declared.Header.{Header}
 use Rattle.header.specs.declared.Table.{Table}
 use Rattle.header.specs.Header.{section}
 use Rattle.frame.specs.Offsets.{allowed}
-use Rattle.map_list.specs.declared.Entry.{Entry}
-use Rattle.map_list.specs.declared.Judge.{Judge}
+use Rattle.map_list.specs.declared.MapEntry.{MapEntry}
+use Rattle.map_list.specs.declared.MapJudge.{MapJudge}
 use Rattle.map_list.specs.declared.MapList.{MapList}
 use Rattle.map_list.specs.declared.HandlesAnswer.{HandlesAnswer}
 use Rattle.map_list.specs.declared.MapAnswer.{MapAnswer}
 use Rattle.map_list.specs.declared.HandlesAnswer.the-variants as T
-use Rattle.map_list.specs.Codes.{codeOf}
+use Rattle.map_list.specs.Codes.{mapCodeNumber}
 use Rattle.map_list.specs.Map.{entryAt, entryNumber, handlesAllowed, entryAllowed, nextAllowed, handlesOf, Scan, judged, stepAt, begin, Map, listOf, listAt, judge-of, mapAt, kept, scanAt, keptListAt, keptAt}
 use Rattle.map_list.specs.Answers.{handles-outcome, map-outcome}
 use Rattle.map_list.proofs.Exactly.{counted}
@@ -45,7 +45,7 @@ module _ (len size offset : ℕ) where
   unfolding handlesAllowed
   handles-room p h = rw (le-leb 112 offset p, eq-eqb (offset % 4) 0 h)
 
-module _ (version len : ℕ) (e : Entry) where
+module _ (version len : ℕ) (e : MapEntry) where
   pub entry-sites : e .kind ≡ 7 → leb 38 version ≡ entryAllowed version len e
   unfolding entryAllowed
   entry-sites h = rw (eq-eqb (e .kind) 7 h)
@@ -63,7 +63,7 @@ module _ (version len : ℕ) (e : Entry) where
     unfolding entryAllowed
     entry-other h = rw (ne-eqb (e .kind) 7 other, ne-eqb (e .kind) 8 h)
 
-module _ (j : Judge) (e : Entry) (floor seen : ℕ) where
+module _ (j : MapJudge) (e : MapEntry) (floor seen : ℕ) where
   pub next-low : e .offset < floor → false ≡ nextAllowed j e floor seen
   unfolding nextAllowed
   next-low h = rw (lt-leb floor (e .offset) h)
@@ -76,7 +76,7 @@ module _ (j : Judge) (e : Entry) (floor seen : ℕ) where
   unfolding nextAllowed
   next-by p h q = rw (le-leb floor (e .offset) p, eq-eqb seen 0 h) q
 
-module _ (e : Entry) (before : Table) where
+module _ (e : MapEntry) (before : Table) where
   pub handles-new : e .kind ≡ 8 → record { count = e .size; offset = e .offset } ≡ handlesOf e before
   unfolding handlesOf
   handles-new h = rw (eq-eqb (e .kind) 8 h)
@@ -101,37 +101,37 @@ pub number-past : (f : List ℕ) (h : Header) (k : ℕ) {s : List ℕ} → s ≡
 unfolding entryNumber
 number-past f h k e p = rw (← e) (entry-past (h .order) _ (h .map + 4 + 12 * k) (omega arith))
 
-pub number-there : (f : List ℕ) (h : Header) (k : ℕ) {s : List ℕ} {r : Entry} → s ≡ section f h → r ≡ entryAt (h .order) s (h .map + 4 + 12 * k) → r ≡ entryNumber f h k
+pub number-there : (f : List ℕ) (h : Header) (k : ℕ) {s : List ℕ} {r : MapEntry} → s ≡ section f h → r ≡ entryAt (h .order) s (h .map + 4 + 12 * k) → r ≡ entryNumber f h k
 unfolding entryNumber
 number-there f h k e p = rw (← e) p
 
 -- ---- the loop of `scan` at its head: `left` entries are still to be judged
-pub record Scanning (s : List ℕ) (j : Judge) (from count left place floor : ℕ) (seen : List ℕ) (handles : Table) : Type 0 where
+pub record Scanning (s : List ℕ) (j : MapJudge) (from count left place floor : ℕ) (seen : List ℕ) (handles : Table) : Type 0 where
   pub gather : Gather (stepAt s j) count (begin from) left (record { place = place; floor = floor; seen = seen; handles = handles })
   pub room : place + 12 * left ≤ length s
 
-pub scanning-first : (s : List ℕ) (j : Judge) (from count : ℕ) → from + 12 * count ≤ length s → Scanning s j from count count from 0 (replicate 21 0) (record { count = 0; offset = 0 })
+pub scanning-first : (s : List ℕ) (j : MapJudge) (from count : ℕ) → from + 12 * count ≤ length s → Scanning s j from count count from 0 (replicate 21 0) (record { count = 0; offset = 0 })
 scanning-first s j from count h = record { gather = gather-first (stepAt s j) count (begin from); room = h }
 
-module _ {s : List ℕ} {j : Judge} {from count left place floor : ℕ} {seen : List ℕ} {handles : Table} (h : Scanning s j from count left place floor seen handles) {e : Entry} {number : ℕ}
-    (l : 0 < left) (read : e ≡ entryAt (j .order) s place) (is : number ≡ codeOf (e .kind)) where
+module _ {s : List ℕ} {j : MapJudge} {from count left place floor : ℕ} {seen : List ℕ} {handles : Table} (h : Scanning s j from count left place floor seen handles) {e : MapEntry} {number : ℕ}
+    (l : 0 < left) (read : e ≡ entryAt (j .order) s place) (is : number ≡ mapCodeNumber (e .kind)) where
   abbrev here-at : Scan
   here-at = record { place = place; floor = floor; seen = seen; handles = handles }
 
-  stops : {B : Type 0} (k : Found (List Entry) Scan → Outcome B) → refused (record { number = 16; place = j .at }) ≡ judged j here-at e → refused (record { number = 16; place = j .at }) ≡ (collect count (stepAt s j) (begin from) >>= k)
+  stops : {B : Type 0} (k : Found (List MapEntry) Scan → Outcome B) → refused (record { number = 16; place = j .at }) ≡ judged j here-at e → refused (record { number = 16; place = j .at }) ≡ (collect count (stepAt s j) (begin from) >>= k)
   unfolding stepAt
   stops k q = sym (bind-refused k (sym (gather-stop (h .gather) l (sym (bind-refused past (ap (judged j here-at) (sym read) ∙ sym q))))))
 
   pub scanning-unknown : 21 ≤ number → refused (record { number = 16; place = j .at }) ≡ scanAt s j from count
   unfolding scanAt judged
-  scanning-unknown p = stops _ (fails _ (le-ltb (codeOf (e .kind)) 21 (let z = is in omega arith)))
+  scanning-unknown p = stops _ (fails _ (le-ltb (mapCodeNumber (e .kind)) 21 (let z = is in omega arith)))
 
   module _ (known : number < 21) {b : Bool} (asked : b ≡ nextAllowed j e floor (getD seen number 0)) where
-    there : b ≡ nextAllowed j e floor (getD seen (codeOf (e .kind)) 0)
+    there : b ≡ nextAllowed j e floor (getD seen (mapCodeNumber (e .kind)) 0)
     there = subst (λ (x : ℕ). b ≡ nextAllowed j e floor (getD seen x 0)) is asked
 
-    in-table : ltb (codeOf (e .kind)) 21 ≡ true
-    in-table = lt-ltb (codeOf (e .kind)) 21 (let z = is in omega arith)
+    in-table : ltb (mapCodeNumber (e .kind)) 21 ≡ true
+    in-table = lt-ltb (mapCodeNumber (e .kind)) 21 (let z = is in omega arith)
 
     pub scanning-fail : b ≡ false → refused (record { number = 16; place = j .at }) ≡ scanAt s j from count
     unfolding scanAt judged
@@ -141,20 +141,20 @@ module _ {s : List ℕ} {j : Judge} {from count left place floor : ℕ} {seen : 
         → Scanning s j from count (left - 1) (place + 12) (e .offset + 1) (set seen number 1) hs
     unfolding stepAt judged
     scanning-next {hs} q g =
-        let to : Found Entry Scan = record { item = e; next = record { place = place + 12; floor = e .offset + 1; seen = set seen number 1; handles = hs } } in
+        let to : Found MapEntry Scan = record { item = e; next = record { place = place + 12; floor = e .offset + 1; seen = set seen number 1; handles = hs } } in
         let good : answer to ≡ judged j here-at e =
         passes 16 (j .at) in-table (passes 16 (j .at) (sym there ∙ q)
         (λ i. answer (record { item = e; next = record { place = place + 12; floor = e .offset + 1; seen = set seen (is i) 1; handles = g i } }))) in
         record { gather = gather-next (h .gather) l (sym (bind-answer past (ap (judged j here-at) (sym read) ∙ sym good))); room = let z = h .room in omega arith }
 
-pub scanning-done : {s : List ℕ} {j : Judge} {from count left place floor : ℕ} {seen : List ℕ} {handles : Table} → Scanning s j from count left place floor seen handles → left ≤ 0 → answer handles ≡ scanAt s j from count
+pub scanning-done : {s : List ℕ} {j : MapJudge} {from count left place floor : ℕ} {seen : List ℕ} {handles : Table} → Scanning s j from count left place floor seen handles → left ≤ 0 → answer handles ≡ scanAt s j from count
 unfolding scanAt
 scanning-done h l =
     let r = gather-done (h .gather) l in
     sym (bind-answer _ (sym (r .1 .0)) ∙ ap (λ (u : Scan). answer (u .handles)) (r .1 .1))
 
 -- ---- the stages of the list
-module _ (s : List ℕ) (j : Judge) where
+module _ (s : List ℕ) (j : MapJudge) where
   pub list-low : length s < j .at → refused (record { number = 9; place = j .at }) ≡ keptListAt s j
   unfolding keptListAt listAt
   list-low h = sym (bind-refused kept (sym (fails _ (lt-leb (j .at + 4) (length s) (omega arith)))))
@@ -182,9 +182,9 @@ module _ (s : List ℕ) (j : Judge) where
           ap (λ (o : Outcome Map). o >>= kept) (past-size ∙ sym (passes 9 (j .at) (le-leb (j .at + 4 + 12 * count) (length s) room-there) refl))
           ∙ go (collect count (stepAt s j) (begin (j .at + 4))) refl
         where
-          go : (o : Outcome (Found (List Entry) Scan)) → collect count (stepAt s j) (begin (j .at + 4)) ≡ o
-              → ((o >>= λ (r : Found (List Entry) Scan). answer (record { entries = r .item; handles = r .next .handles })) >>= kept)
-              ≡ ((o >>= λ (r : Found (List Entry) Scan). answer (r .next .handles)) >>= λ (t : Table). answer (record { count = count; handles = t }))
+          go : (o : Outcome (Found (List MapEntry) Scan)) → collect count (stepAt s j) (begin (j .at + 4)) ≡ o
+              → ((o >>= λ (r : Found (List MapEntry) Scan). answer (record { entries = r .item; handles = r .next .handles })) >>= kept)
+              ≡ ((o >>= λ (r : Found (List MapEntry) Scan). answer (r .next .handles)) >>= λ (t : Table). answer (record { count = count; handles = t }))
           go (answer r) e = λ i. answer (record { count = counted s j count (j .at + 4) r e i; handles = r .next .handles })
           go (refused r) e = refl
 

@@ -17,5 +17,5 @@ placeIn [] x = 0
 placeIn (c ∷ l) x = cond (eqb c x) 0 (suc (placeIn l x))
 
 -- the number of a code in the table, 21 where it is not there
-unfoldable pub codeOf : ℕ → ℕ
-codeOf kind = placeIn codes kind
+unfoldable pub mapCodeNumber : ℕ → ℕ
+mapCodeNumber kind = placeIn codes kind

@@ -10,8 +10,8 @@ use Rattle.header.specs.declared.Header.{Header}
 use Rattle.header.specs.declared.Table.{Table}
 use Rattle.header.specs.Header.{section}
 use Rattle.frame.specs.Offsets.{Allowed}
-use Rattle.map_list.specs.declared.Entry.{Entry}
-use Rattle.map_list.specs.declared.Judge.{Judge}
+use Rattle.map_list.specs.declared.MapEntry.{MapEntry}
+use Rattle.map_list.specs.declared.MapJudge.{MapJudge}
 use Rattle.map_list.specs.Codes.{codes}
 use Rattle.map_list.specs.Map.{entryAt, judge-of, Map}
 
@@ -22,34 +22,34 @@ pub record HandlesRule (len size offset : ℕ) : Type 0 where
   pub inside : offset + 8 * size ≤ len
 
 -- an entry by itself: its code is in the table, and types 7 and 8 want version 038
-pub record EntryRule (j : Judge) (e : Entry) : Type 0 where
+pub record MapEntryRule (j : MapJudge) (e : MapEntry) : Type 0 where
   pub code : (i : ℕ) × At codes i (e .kind)
   pub call-sites : e .kind ≡ 7 → 38 ≤ j .version
   pub handles-version : e .kind ≡ 8 → 38 ≤ j .version
   pub handles-place : e .kind ≡ 8 → HandlesRule (j .length) (e .size) (e .offset)
 
 -- the entry that stands at a place
-pub record EntryAt (s : List ℕ) (j : Judge) (p : ℕ) (e : Entry) : Type 0 where
+pub record MapEntryAt (s : List ℕ) (j : MapJudge) (p : ℕ) (e : MapEntry) : Type 0 where
   pub stands : entryAt (j .order) s p ≡ e
-  pub rule : EntryRule j e
+  pub rule : MapEntryRule j e
 
-abbrev pub Lower : Entry → Entry → Type 0
+abbrev pub Lower : MapEntry → MapEntry → Type 0
 Lower a b = a .offset < b .offset
 
 -- the handles are those of the entry of type 8, or there are none
-pub data HandlesIn (l : List Entry) : Table → Type 0 where
-  named : {k : ℕ} {e : Entry} → At l k e → e .kind ≡ 8 → HandlesIn l (record { count = e .size; offset = e .offset })
-  unnamed : ((k : ℕ) (e : Entry) → At l k e → e .kind ≡ 8 → ⊥) → HandlesIn l (record { count = 0; offset = 0 })
+pub data HandlesIn (l : List MapEntry) : Table → Type 0 where
+  named : {k : ℕ} {e : MapEntry} → At l k e → e .kind ≡ 8 → HandlesIn l (record { count = e .size; offset = e .offset })
+  unnamed : ((k : ℕ) (e : MapEntry) → At l k e → e .kind ≡ 8 → ⊥) → HandlesIn l (record { count = 0; offset = 0 })
 
 -- entry k at its place, offsets that rise, each type at most once
-pub record ListRule (s : List ℕ) (j : Judge) (m : Map) : Type 0 where
+pub record MapEntriesRule (s : List ℕ) (j : MapJudge) (m : Map) : Type 0 where
   pub size : u32At (j .order) s (j .at) ≡ length (m .entries)
   pub room : j .at + 4 + 12 * length (m .entries) ≤ length s
-  pub entries : Each (λ (k : ℕ) (e : Entry). EntryAt s j (j .at + 4 + 12 * k) e) (length (m .entries)) (m .entries)
+  pub entries : Each (λ (k : ℕ) (e : MapEntry). MapEntryAt s j (j .at + 4 + 12 * k) e) (length (m .entries)) (m .entries)
   pub rising : Rising Lower (m .entries)
-  pub once : {i k : ℕ} {a b : Entry} → At (m .entries) i a → At (m .entries) k b → a .kind ≡ b .kind → i ≡ k
+  pub once : {i k : ℕ} {a b : MapEntry} → At (m .entries) i a → At (m .entries) k b → a .kind ≡ b .kind → i ≡ k
   pub handles : HandlesIn (m .entries) (m .handles)
 
 pub record MapRule (f : List ℕ) (h : Header) (m : Map) : Type 0 where
   pub offset : Allowed (h .start) (length (section f h)) true (h .map)
-  pub list : ListRule (section f h) (judge-of f h) m
+  pub list : MapEntriesRule (section f h) (judge-of f h) m

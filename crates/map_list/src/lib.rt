@@ -6,7 +6,7 @@ use word::Endian;
 ghost use mathlib.Core.Path.{_≡_};
 ghost use Prim.Native.Nat.{_+_, _*_, _≤_};
 ghost use lib.ListN.{length};
-ghost use Rattle.map_list.specs.Codes.{codeOf};
+ghost use Rattle.map_list.specs.Codes.{mapCodeNumber};
 ghost use Rattle.map_list.specs.Map.{entryAt, entryNumber, handlesAllowed, entryAllowed, nextAllowed, handlesOf, scanAt, keptListAt, keptAt};
 ghost use Rattle.map_list.specs.Answers.{handles-outcome, map-outcome};
 
@@ -35,7 +35,7 @@ const CODES: [u16; 21] = [
     0xf000,
 ];
 
-pub struct Entry {
+pub struct MapEntry {
     pub kind: u16,
     pub size: u32,
     pub offset: u32,
@@ -53,7 +53,7 @@ pub enum MapAnswer {
 }
 
 // What entries are judged by: the file's length, and the map's own place.
-pub struct Judge {
+pub struct MapJudge {
     pub order: Endian,
     pub version: u32,
     pub length: usize,
@@ -67,7 +67,7 @@ pub enum HandlesAnswer {
 
 // The number of a code in the table, 21 where it is not there.
 fn code_of(kind: u16) -> usize
-    ensures { λ r. ⌜ r ≡ codeOf kind ⌝ }
+    ensures { λ r. ⌜ r ≡ mapCodeNumber kind ⌝ }
 {
     let mut i: usize = 0;
     while i < 21 {
@@ -80,17 +80,17 @@ fn code_of(kind: u16) -> usize
 }
 
 // The entry at a place.
-pub fn entry_at(s: &[u8], order: Endian, at: usize) -> Entry
+pub fn entry_at(s: &[u8], order: Endian, at: usize) -> MapEntry
     ensures { λ r. ⌜ r ≡ entryAt order (now (s .entry)) at ⌝ }
 {
     if s.len() <= at {
-        return Entry {
+        return MapEntry {
             kind: 0,
             size: 0,
             offset: 0,
         };
     }
-    Entry {
+    MapEntry {
         kind: word::u16_at(s, at, order),
         size: word::u32_at(s, at + 4, order),
         offset: word::u32_at(s, at + 8, order),
@@ -98,14 +98,14 @@ pub fn entry_at(s: &[u8], order: Endian, at: usize) -> Entry
 }
 
 // Entry k of the map.
-pub fn entry_number(f: &[u8], h: Header, k: u32) -> Entry
+pub fn entry_number(f: &[u8], h: Header, k: u32) -> MapEntry
     ensures { λ r. ⌜ r ≡ entryNumber (now (f .entry)) h k ⌝ }
 {
     let order = h.order;
     let map = h.map;
     let s = header::section_of(f, h);
     if s.len() <= map {
-        return Entry {
+        return MapEntry {
             kind: 0,
             size: 0,
             offset: 0,
@@ -128,7 +128,7 @@ fn are_handles_allowed(length: usize, size: u32, offset: u32) -> bool
 }
 
 // The rules of an entry by itself, but for its code.
-fn is_entry_allowed(version: u32, length: usize, e: Entry) -> bool
+fn is_entry_allowed(version: u32, length: usize, e: MapEntry) -> bool
     ensures { λ r. ⌜ r ≡ entryAllowed version length e ⌝ }
 {
     let kind = e.kind;
@@ -145,7 +145,7 @@ fn is_entry_allowed(version: u32, length: usize, e: Entry) -> bool
 }
 
 // The rules of an entry after others: its offset is at least `floor`, and its code was not seen.
-fn is_next_allowed(j: Judge, e: Entry, floor: u64, seen: u8) -> bool
+fn is_next_allowed(j: MapJudge, e: MapEntry, floor: u64, seen: u8) -> bool
     ensures { λ r. ⌜ r ≡ nextAllowed j e floor seen ⌝ }
 {
     let offset = e.offset as u64;
@@ -159,7 +159,7 @@ fn is_next_allowed(j: Judge, e: Entry, floor: u64, seen: u8) -> bool
 }
 
 // The method handles that an entry gives, or else those that were given before.
-fn handles_of(e: Entry, before: Table) -> Table
+fn handles_of(e: MapEntry, before: Table) -> Table
     ensures { λ r. ⌜ r ≡ handlesOf e before ⌝ }
 {
     let kind = e.kind;
@@ -173,7 +173,7 @@ fn handles_of(e: Entry, before: Table) -> Table
 }
 
 // The entries from a place on, which all lie within the slice.
-fn scan(s: &[u8], j: Judge, from: usize, count: u32) -> HandlesAnswer
+fn scan(s: &[u8], j: MapJudge, from: usize, count: u32) -> HandlesAnswer
     requires { ⌜ from + 12 * count ≤ length (now s) ⌝ }
     ensures { λ r. ⌜ handles-outcome r ≡ scanAt (now (s .entry)) j from count ⌝ }
 {
@@ -212,7 +212,7 @@ fn scan(s: &[u8], j: Judge, from: usize, count: u32) -> HandlesAnswer
 }
 
 // The list at the map's offset: its length first, then its entries.
-fn list_at(s: &[u8], j: Judge) -> MapAnswer
+fn list_at(s: &[u8], j: MapJudge) -> MapAnswer
     ensures { λ r. ⌜ map-outcome r ≡ keptListAt (now (s .entry)) j ⌝ }
 {
     let order = j.order;
@@ -251,7 +251,7 @@ pub fn map_of(f: &[u8], h: Header) -> MapAnswer
     if frame::is_allowed(h.start, s.len(), true, h.map) {
         return list_at(
             s,
-            Judge {
+            MapJudge {
                 order,
                 version: h.version,
                 length: f.len(),

@@ -23,11 +23,11 @@ use Rattle.value_bodies.specs.Bodies.{pick}
 use Rattle.table_readers.specs.Head.{mappedAt, openedAt}
 use Rattle.annotation_lists.specs.Fixed.{Fixed, fixedAt, entriesFrom}
 use Rattle.annotation_lists.specs.Offsets.{wordAt, offsetOf, offsetAt, offsetsAt, offsetCount, offsetNumber}
-use Rattle.annotation_directories.specs.Directories.{Entry, countsAt, headAt, entryOf, entryAt, listAt, listsAt, directoryAt, directoryHead, listOf, directoryEntry}
-use Rattle.annotation_items.specs.Items.{Item, itemAt, itemSummary, itemElement}
+use Rattle.annotation_directories.specs.Directories.{DirectoryEntry, countsAt, headAt, entryOf, entryAt, listAt, listsAt, directoryAt, directoryHead, listOf, directoryEntry}
+use Rattle.annotation_items.specs.Items.{AnnotationItem, itemAt, itemSummary, itemElement}
 use Rattle.annotation_lists.specs.Rules.{OffsetAllowed}
-use Rattle.annotation_directories.specs.Rules.{EntryRule}
-use Rattle.annotation_items.specs.Rules.{ItemRule}
+use Rattle.annotation_directories.specs.Rules.{DirectoryEntryRule}
+use Rattle.annotation_items.specs.Rules.{AnnotationItemRule}
 use Rattle.annotation_lists.proofs.Exactly.{offsets-exact}
 use Rattle.annotation_directories.proofs.Exactly.{directory-exact}
 use Rattle.annotation_items.proofs.Exactly.{item-exact}
@@ -57,29 +57,29 @@ module _ (f : List ℕ) (h : Header) (handles : ℕ) where
   offsets-alike at none-at-0 four = refl
 
   -- ---- sets
-  abbrev Set-there : ℕ → Option (List Item) → Type 0
+  abbrev Set-there : ℕ → Option (List AnnotationItem) → Type 0
   Set-there at o = Present (SetBelow (section f h) (frame-of h handles) at) at o
 
-  set-read : {at : ℕ} {l : List Item} (rule : SetBelow (section f h) (frame-of h handles) at l) → offsetsAt (section f h) (frame-of h 0) at false false ≡ answer (rule .offsets)
+  set-read : {at : ℕ} {l : List AnnotationItem} (rule : SetBelow (section f h) (frame-of h handles) at l) → offsetsAt (section f h) (frame-of h 0) at false false ≡ answer (rule .offsets)
   set-read {at} rule = offsets-alike at false false ∙ offsets-exact (section f h) (frame-of h handles) at false false .complete (rule .offsets) (rule .rule)
 
-  set-counted : {at : ℕ} {o : Option (List Item)} → Set-there at o → S.setCount f h at ≡ answer (length (listed o))
+  set-counted : {at : ℕ} {o : Option (List AnnotationItem)} → Set-there at o → S.setCount f h at ≡ answer (length (listed o))
   unfolding S.setCount offsetCount
   set-counted {at} (absent e) = sym (leaves (offsetCount (section f h) (frame-of h 0) at false false) (le-ltb 0 at (omega arith)) refl)
   set-counted {at} (found-there p rule) = sym (picks (answer 0) (lt-ltb 0 at p) refl) ∙ bind-answer _ (set-read rule) ∙ ap answer (sym (rule .items .count))
 
-  set-numbered : {at : ℕ} {o : Option (List Item)} → Set-there at o → (k : ℕ) → S.setNumber f h at k ≡ (pick k (listed o) >>= λ (a : Item). answer (a .place))
+  set-numbered : {at : ℕ} {o : Option (List AnnotationItem)} → Set-there at o → (k : ℕ) → S.setNumber f h at k ≡ (pick k (listed o) >>= λ (a : AnnotationItem). answer (a .place))
   unfolding S.setNumber offsetNumber
   set-numbered {at} (absent e) k = sym (leaves (offsetNumber (section f h) (frame-of h 0) at false false k) (le-ltb 0 at (omega arith)) refl) ∙ pick-empty k _
   set-numbered {at} (found-there {a = l} p rule) k =
       sym (picks _ (lt-ltb 0 at p) refl)
       ∙ bind-answer _ (set-read rule)
       ∙ sym (made-same _)
-      ∙ pick-both (rule .offsets) l k (λ (x : ℕ). answer x) (λ (a : Item). answer (a .place)) (sym (rule .items .count))
+      ∙ pick-both (rule .offsets) l k (λ (x : ℕ). answer x) (λ (a : AnnotationItem). answer (a .place)) (sym (rule .items .count))
       (λ x a m n. ap answer (sym (rule .rule .offsets .entries .each m .stands) ∙ rule .items .each n .place))
 
   -- ---- reference lists
-  module _ {at : ℕ} {l : List (Option (List Item))} (rule : ReferencesBelow (section f h) (frame-of h handles) at l) where
+  module _ {at : ℕ} {l : List (Option (List AnnotationItem))} (rule : ReferencesBelow (section f h) (frame-of h handles) at l) where
     references-read : offsetsAt (section f h) (frame-of h 0) at true true ≡ answer (rule .offsets)
     references-read = offsets-alike at true true ∙ offsets-exact (section f h) (frame-of h handles) at true true .complete (rule .offsets) (rule .rule)
 
@@ -88,8 +88,8 @@ module _ (f : List ℕ) (h : Header) (handles : ℕ) where
     references-counted = bind-answer _ references-read ∙ ap answer (sym (rule .sets .count))
 
     -- set p, and what is made of it
-    reference-at : {C : Type 0} (p : ℕ) (k : Reached → Outcome C) (g : Option (List Item) → Outcome C)
-        → ((x : ℕ) (o : Option (List Item)) → Set-there x o → k (record { header = h; place = x }) ≡ g o) → (S.parameterSetIn f h at p >>= k) ≡ (pick p l >>= g)
+    reference-at : {C : Type 0} (p : ℕ) (k : Reached → Outcome C) (g : Option (List AnnotationItem) → Outcome C)
+        → ((x : ℕ) (o : Option (List AnnotationItem)) → Set-there x o → k (record { header = h; place = x }) ≡ g o) → (S.parameterSetIn f h at p >>= k) ≡ (pick p l >>= g)
     unfolding S.parameterSetIn offsetNumber
     reference-at p k g same =
         bind-assoc _ _ k
@@ -113,19 +113,19 @@ module _ (f : List ℕ) (h : Header) (handles : ℕ) where
       ∙ λ i. answer (some (record { set = rule .set i; fields = sym (rule .fields .count) i; methods = sym (rule .methods .count) i; parameters = sym (rule .parameters .count) i }))
 
   -- the entries of a list, by themselves and with what lies below them
-  record Entries {B : Type 0} (Below : ℕ → B → Type 0) (item : ℕ) (l : List Entry) (us : List (Under B)) : Type 0 where
+  record Entries {B : Type 0} (Below : ℕ → B → Type 0) (item : ℕ) (l : List DirectoryEntry) (us : List (Under B)) : Type 0 where
     limit : ℕ
     from : ℕ
     count : ℕ
-    own : Fixed (section f h) (EntryRule (section f h) (frame-of h handles) item limit) 8 from count l
+    own : Fixed (section f h) (DirectoryEntryRule (section f h) (frame-of h handles) item limit) 8 from count l
     below : Each (λ (n : ℕ) (u : Under B). EntryBelow (section f h) (frame-of h handles) Below (from + 8 * n) u) count us
 
   -- what is made of an entry is made of its index and offset
-  abbrev Made : {B C : Type 0} → (ℕ → B → Type 0) → (Entry → Outcome C) → (Under B → Outcome C) → Type 0
+  abbrev Made : {B C : Type 0} → (ℕ → B → Type 0) → (DirectoryEntry → Outcome C) → (Under B → Outcome C) → Type 0
   Made {B} Below k g = (u : Under B) → Below (u .offset) (u .below) → h .start ≤ u .offset → k (entry-of u) ≡ g u
 
-  entries-both : {B C : Type 0} {Below : ℕ → B → Type 0} {item : ℕ} (l : List Entry) (us : List (Under B)) → Entries Below item l us
-      → (e : ℕ) (k : Entry → Outcome C) (g : Under B → Outcome C) → Made Below k g → (pick e l >>= k) ≡ (pick e us >>= g)
+  entries-both : {B C : Type 0} {Below : ℕ → B → Type 0} {item : ℕ} (l : List DirectoryEntry) (us : List (Under B)) → Entries Below item l us
+      → (e : ℕ) (k : DirectoryEntry → Outcome C) (g : Under B → Outcome C) → Made Below k g → (pick e l >>= k) ≡ (pick e us >>= g)
   entries-both {Below = Below} l us both e k g same =
       pick-both l us e k g (both .own .entries .count ∙ sym (both .below .count))
       (λ a u m n.
@@ -138,16 +138,16 @@ module _ (f : List ℕ) (h : Header) (handles : ℕ) where
   -- one of the three lists of a directory, whose entries lead to sets or to reference lists
   module _ {B : Type 0} (Below : ℕ → B → Type 0) (list : ℕ) (part : Annotated → List (Under B))
       (both : (at : ℕ) (a : Annotated) (rule : DirectoryBelow (section f h) (frame-of h handles) at a) → Entries Below at (listOf (rule .directory) list) (part a)) where
-    entry-at : {C : Type 0} {at : ℕ} {o : Option Annotated} → Directory-there at o → (e : ℕ) (k : Entry → Outcome C) (g : Under B → Outcome C)
+    entry-at : {C : Type 0} {at : ℕ} {o : Option Annotated} → Directory-there at o → (e : ℕ) (k : DirectoryEntry → Outcome C) (g : Under B → Outcome C)
         → Made Below k g → (D.entryIn f h at list e >>= k) ≡ (pick e (under part o) >>= g)
     unfolding D.entryIn directoryEntry _>>=_
-    entry-at {at = at} (absent x) e k g same = ap (λ (o : Outcome Entry). o >>= k) (sym (leaves (directoryEntry (section f h) (frame-of h 0) at list e) (le-ltb 0 at (omega arith)) refl)) ∙ pick-empty e g
+    entry-at {at = at} (absent x) e k g same = ap (λ (o : Outcome DirectoryEntry). o >>= k) (sym (leaves (directoryEntry (section f h) (frame-of h 0) at list e) (le-ltb 0 at (omega arith)) refl)) ∙ pick-empty e g
     entry-at {at = at} (found-there {a = a} p rule) e k g same =
-        ap (λ (o : Outcome Entry). o >>= k) (sym (picks _ (lt-ltb 0 at p) refl) ∙ bind-answer _ (directory-read rule))
+        ap (λ (o : Outcome DirectoryEntry). o >>= k) (sym (picks _ (lt-ltb 0 at p) refl) ∙ bind-answer _ (directory-read rule))
         ∙ entries-both (listOf (rule .directory) list) (part a) (both at a rule) e k g same
 
     entry-read : {at : ℕ} {o : Option Annotated} → Directory-there at o → (e : ℕ) → D.entryIn f h at list e ≡ (pick e (under part o) >>= λ (u : Under B). answer (entry-of u))
-    entry-read there e = sym (made-same _) ∙ entry-at there e (λ (x : Entry). answer x) (λ (u : Under B). answer (entry-of u)) (λ u b l. refl)
+    entry-read there e = sym (made-same _) ∙ entry-at there e (λ (x : DirectoryEntry). answer x) (λ (u : Under B). answer (entry-of u)) (λ u b l. refl)
 
     entry-set-at : {C : Type 0} {at : ℕ} {o : Option Annotated} → Directory-there at o → (e : ℕ) (k : Reached → Outcome C) (g : Under B → Outcome C)
         → ((u : Under B) → Below (u .offset) (u .below) → h .start ≤ u .offset → k (record { header = h; place = u .offset }) ≡ g u) → (S.entrySetIn f h at list e >>= k) ≡ (pick e (under part o) >>= g)
@@ -168,8 +168,8 @@ module _ (f : List ℕ) (h : Header) (handles : ℕ) where
     parameter-entries = record { limit = _; from = _; count = _; own = rule .rule .parameters; below = rule .parameters }
 
   -- the set of a class
-  class-set-at : {C : Type 0} {at : ℕ} {o : Option Annotated} → Directory-there at o → (k : Reached → Outcome C) (g : List Item → Outcome C)
-      → ((x : ℕ) (l : Option (List Item)) → Set-there x l → k (record { header = h; place = x }) ≡ g (listed l)) → (S.classSetIn f h at >>= k) ≡ g (under (λ (d : Annotated). listed (d .own)) o)
+  class-set-at : {C : Type 0} {at : ℕ} {o : Option Annotated} → Directory-there at o → (k : Reached → Outcome C) (g : List AnnotationItem → Outcome C)
+      → ((x : ℕ) (l : Option (List AnnotationItem)) → Set-there x l → k (record { header = h; place = x }) ≡ g (listed l)) → (S.classSetIn f h at >>= k) ≡ g (under (λ (d : Annotated). listed (d .own)) o)
   unfolding S.classSetIn _>>=_
   class-set-at (absent e) k g same = ap (λ (o : Outcome Reached). o >>= k) (bind-answer _ (head-read (absent e))) ∙ same 0 none (absent refl)
   class-set-at (found-there {a = a} p rule) k g same =
@@ -199,8 +199,8 @@ module _ (f : List ℕ) {r : File} (reads : Reads f r) where
 
   -- ---- annotations by place
   -- an annotation of the file: it obeys the rules at its place, which lies in the data section
-  pub record Item-there (a : Item) : Type 0 where
-    pub rule : ItemRule (section f (r .header)) (frame-of (r .header) (r .map .handles .count)) (a .place) a
+  pub record Item-there (a : AnnotationItem) : Type 0 where
+    pub rule : AnnotationItemRule (section f (r .header)) (frame-of (r .header) (r .map .handles .count)) (a .place) a
     pub allows : Allowed (r .header .start) (r .header .end) false (a .place)
 
   pub section-short : length (section f (r .header)) ≤ r .header .end
@@ -213,29 +213,29 @@ module _ (f : List ℕ) {r : File} (reads : Reads f r) where
   shorter : {x : ℕ} → Allowed (r .header .start) (length (section f (r .header))) false x → Allowed (r .header .start) (r .header .end) false x
   shorter a = record { from = a .from; before-end = let x = a .before-end in let y = section-short in omega arith; multiple = a .multiple }
 
-  item-there : {at k : ℕ} {l : List Item} {a : Item} → SetBelow (section f (r .header)) (frame-of (r .header) (r .map .handles .count)) at l → At l k a → Item-there a
+  item-there : {at k : ℕ} {l : List AnnotationItem} {a : AnnotationItem} → SetBelow (section f (r .header)) (frame-of (r .header) (r .map .handles .count)) at l → At l k a → Item-there a
   unfolding OffsetAllowed
   item-there {k = k} {a = a} rule m =
       let item = rule .items .each m in
       let found = at-some (rule .offsets) k (let x = at-below m in let y = rule .items .count in omega arith) in
       let offset = rule .rule .offsets .entries .each (found .1) in
       record {
-        rule = subst (λ (x : ℕ). ItemRule (section f (r .header)) (frame-of (r .header) (r .map .handles .count)) x a) (item .place) item;
+        rule = subst (λ (x : ℕ). AnnotationItemRule (section f (r .header)) (frame-of (r .header) (r .map .handles .count)) x a) (item .place) item;
         allows = subst (Allowed (r .header .start) (r .header .end) false) (sym (offset .stands) ∙ item .place) (shorter (offset .allows));
       }
 
-  item-listed : {at k : ℕ} {o : Option (List Item)} {a : Item} → Set-there f (r .header) (r .map .handles .count) at o → At (listed o) k a → Item-there a
+  item-listed : {at k : ℕ} {o : Option (List AnnotationItem)} {a : AnnotationItem} → Set-there f (r .header) (r .map .handles .count) at o → At (listed o) k a → Item-there a
   item-listed (absent e) m = absurd (let l = at-below m in omega arith)
   item-listed (found-there p rule) m = item-there rule m
 
   -- in the set of a class, a field, a method or a parameter
-  item-below : {at : ℕ} {d : Annotated} {a : Item} → DirectoryBelow (section f (r .header)) (frame-of (r .header) (r .map .handles .count)) at d → ItemOf d a → Item-there a
+  item-below : {at : ℕ} {d : Annotated} {a : AnnotationItem} → DirectoryBelow (section f (r .header)) (frame-of (r .header) (r .map .handles .count)) at d → ItemOf d a → Item-there a
   item-below rule (of-class m) = item-listed (rule .own) m
   item-below rule (of-field n m) = item-there (rule .fields .each n .below) m
   item-below rule (of-method n m) = item-there (rule .methods .each n .below) m
   item-below rule (of-parameter n i m) = item-listed (rule .parameters .each n .below .sets .each i) m
 
-  pub item-in : {a : Item} → ItemIn r a → Item-there a
+  pub item-in : {a : AnnotationItem} → ItemIn r a → Item-there a
   item-in {a} i = go (subst (Directory-there f (r .header) (r .map .handles .count) (i .class .own .directory)) (i .directory-is) (reads .classes .each (i .class-is) .annotations))
     where
       go : {at : ℕ} → Directory-there f (r .header) (r .map .handles .count) at (some (i .directory)) → Item-there a
@@ -250,7 +250,7 @@ module _ (f : List ℕ) {r : File} (reads : Reads f r) where
   unfolding openedWithin
   opened-within {x} a = bind-answer _ opened ∙ sym (passes 7 0 (allowed-decides (r .header .start) (r .header .end) false x .complete a) refl)
 
-  module _ {a : Item} (i : ItemIn r a) where
+  module _ {a : AnnotationItem} (i : ItemIn r a) where
     item-read : itemAt (section f (r .header)) (frame-of (r .header) (r .map .handles .count)) (a .place) ≡ answer a
     item-read = item-exact (section f (r .header)) (frame-of (r .header) (r .map .handles .count)) (a .place) .complete a (item-in i .rule)
 
@@ -263,22 +263,22 @@ module _ (f : List ℕ) {r : File} (reads : Reads f r) where
     element-read k = bind-answer _ (opened-within (item-in i .allows)) ∙ bind-answer _ item-read
 
 pub annotations-agree : (f : List ℕ) {r : File} → Reads f r → AnnotationReaders f r
-unfolding D.directory D.entryOf S.countOf S.placeOf S.classSet S.parameterSet S.parameterSetCount
+unfolding D.directory D.entryNumber S.annotationCount S.annotationPlace S.classSet S.parameterSet S.parameterSetCount
 annotations-agree f {r} reads =
     let h = r .header in
     let n = r .map .handles .count in
     let Sets = SetBelow (section f h) (frame-of h n) in
     let Lists = ReferencesBelow (section f h) (frame-of h n) in
-    let fields : Annotated → List (Under (List Item)) = λ d. d .fields in
-    let methods : Annotated → List (Under (List Item)) = λ d. d .methods in
-    let parameters : Annotated → List (Under (List (Option (List Item)))) = λ d. d .parameters in
+    let fields : Annotated → List (Under (List AnnotationItem)) = λ d. d .fields in
+    let methods : Annotated → List (Under (List AnnotationItem)) = λ d. d .methods in
+    let parameters : Annotated → List (Under (List (Option (List AnnotationItem)))) = λ d. d .parameters in
     record {
       head = λ c. at-directory f reads c _ _ (λ b there. head-read f h n there);
       field-entry = λ c e. at-directory f reads c _ _ (λ b there. entry-read f h n Sets 0 fields (field-entries f h n) there e);
       method-entry = λ c e. at-directory f reads c _ _ (λ b there. entry-read f h n Sets 1 methods (method-entries f h n) there e);
       parameter-entry = λ c e. at-directory f reads c _ _ (λ b there. entry-read f h n Lists 2 parameters (parameter-entries f h n) there e);
-      class-count = λ c. bind-assoc _ _ _ ∙ at-directory f reads c _ _ (λ b there. class-set-at f h n there _ (λ (l : List Item). answer (length l)) (λ x l s. set-counted f h n s));
-      class-place = λ c k. bind-assoc _ _ _ ∙ at-directory f reads c _ _ (λ b there. class-set-at f h n there _ (λ (l : List Item). pick k l >>= λ (a : Item). answer (a .place)) (λ x l s. set-numbered f h n s k));
+      class-count = λ c. bind-assoc _ _ _ ∙ at-directory f reads c _ _ (λ b there. class-set-at f h n there _ (λ (l : List AnnotationItem). answer (length l)) (λ x l s. set-counted f h n s));
+      class-place = λ c k. bind-assoc _ _ _ ∙ at-directory f reads c _ _ (λ b there. class-set-at f h n there _ (λ (l : List AnnotationItem). pick k l >>= λ (a : AnnotationItem). answer (a .place)) (λ x l s. set-numbered f h n s k));
       field-count = λ c e. entry-leads f reads Sets 0 fields (field-entries f h n) c e _ _ (λ u s p. set-counted f h n (found-there p s));
       field-place = λ c e k. entry-leads f reads Sets 0 fields (field-entries f h n) c e _ _ (λ u s p. set-numbered f h n (found-there p s) k);
       method-count = λ c e. entry-leads f reads Sets 1 methods (method-entries f h n) c e _ _ (λ u s p. set-counted f h n (found-there p s));

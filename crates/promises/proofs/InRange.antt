@@ -7,14 +7,14 @@ use mathlib.Core.List.{List}
 use lib.ListN.{length}
 use lib.Dec.{eqb}
 use Rattle.refusal.specs.Exact.{At}
-use Rattle.ids.specs.declared.Member.{Member}
+use Rattle.ids.specs.declared.MemberId.{MemberId}
 use Rattle.ids.specs.declared.Handle.{Handle}
 use Rattle.class_members.specs.declared.Member as M
 use Rattle.handlers.specs.declared.Pair.{Pair}
 use Rattle.handlers.specs.Handlers.{Handler}
 use Rattle.debug_info.specs.Debug.{Debug}
 use Rattle.encoded_value.specs.Tree.{Named, index, annotation, elements-of}
-use Rattle.annotation_items.specs.Items.{Item}
+use Rattle.annotation_items.specs.Items.{AnnotationItem}
 use Rattle.annotation_walk.specs.Below.{Under}
 use Rattle.class_walk.specs.Methods.{Body, DataBelow}
 use Rattle.class_walk.specs.Classes.{ClassBelow}
@@ -47,7 +47,7 @@ module _ (r : File) where
     pub parameters : All Kind (listed (p .parameters))
 
   -- a field has a type, a method a proto
-  pub record MemberIndices (Own : ℕ → Type 0) (m : Member) : Type 0 where
+  pub record MemberIndices (Own : ℕ → Type 0) (m : MemberId) : Type 0 where
     pub class : Kind (m .class)
     pub kind : Own (m .kind)
     pub name : String (m .name)
@@ -100,11 +100,11 @@ pub record ValueIndices (r : File) : Type 0 where
   -- a value that is an index, at any depth
   pub index-value : {code n : ℕ} → ValueIn r (index code n) → (0x15 ≤ code) × (code < 0x1c) × (n < rows r code)
   -- the type of an annotation, and the names of its elements: of an item, and of one inside a value
-  pub item-type : {a : Item} → ItemIn r a → a .annotation .type-index < length (r .types)
-  pub item-name : {k : ℕ} {a : Item} {e : Named} → ItemIn r a → At (a .annotation .elements) k e → e .name < length (r .strings)
+  pub item-type : {a : AnnotationItem} → ItemIn r a → a .annotation .type-index < length (r .types)
+  pub item-name : {k : ℕ} {a : AnnotationItem} {e : Named} → ItemIn r a → At (a .annotation .elements) k e → e .name < length (r .strings)
   pub body-type : {p q t : ℕ} (es : List Named) → ValueIn r (annotation p q t (elements-of es)) → t < length (r .types)
   pub body-name : {p q t k : ℕ} {e : Named} (es : List Named) → ValueIn r (annotation p q t (elements-of es)) → At es k e → e .name < length (r .strings)
   -- the entries of a directory. A parameter entry's index is a method
-  pub field-index : {n e : ℕ} {c : ClassBelow} {u : Under (List Item)} → At (r .classes) n c → At (under (λ d. d .fields) (c .annotations)) e u → u .index < length (r .fields)
-  pub method-index : {n e : ℕ} {c : ClassBelow} {u : Under (List Item)} → At (r .classes) n c → At (under (λ d. d .methods) (c .annotations)) e u → u .index < length (r .methods)
-  pub parameter-index : {n e : ℕ} {c : ClassBelow} {u : Under (List (Option (List Item)))} → At (r .classes) n c → At (under (λ d. d .parameters) (c .annotations)) e u → u .index < length (r .methods)
+  pub field-index : {n e : ℕ} {c : ClassBelow} {u : Under (List AnnotationItem)} → At (r .classes) n c → At (under (λ d. d .fields) (c .annotations)) e u → u .index < length (r .fields)
+  pub method-index : {n e : ℕ} {c : ClassBelow} {u : Under (List AnnotationItem)} → At (r .classes) n c → At (under (λ d. d .methods) (c .annotations)) e u → u .index < length (r .methods)
+  pub parameter-index : {n e : ℕ} {c : ClassBelow} {u : Under (List (Option (List AnnotationItem)))} → At (r .classes) n c → At (under (λ d. d .parameters) (c .annotations)) e u → u .index < length (r .methods)

@@ -17,7 +17,7 @@ use Rattle.class_ids.specs.declared.Maybe.the-variants.{Number, Absent}
 use Rattle.class_ids.specs.Classes.{maybeOf}
 use Rattle.class_ids.specs.Rules.{IndexOrNone}
 use Rattle.class_members.specs.declared.Member as M
-use Rattle.class_members.specs.declared.Judge.{Judge}
+use Rattle.class_members.specs.declared.MemberJudge.{MemberJudge}
 use Rattle.class_members.specs.Rules.{MembersRule}
 use Rattle.handlers.specs.declared.Pair.{Pair}
 use Rattle.handlers.specs.Handlers.{Handler, HandlerList}
@@ -111,7 +111,7 @@ module _ (f : List ℕ) {r : File} (reads : Reads f r) where
   bodies-in {l} {m} both = alike-all (If-there (BodyIndices r)) (λ x o rule. if-present (BodyIndices r) (λ b q. body-in b q) rule) l m both
 
   -- ---- class data
-  members-in : (j : Judge) (Own : ℕ → Type 0) → ((n : ℕ) → n < j .limit → Own n) → {p count q : ℕ} {l : List M.Member} → MembersRule (section f (r .header)) j p count l q → All (λ (m : M.Member). Own (m .index)) l
+  members-in : (j : MemberJudge) (Own : ℕ → Type 0) → ((n : ℕ) → n < j .limit → Own n) → {p count q : ℕ} {l : List M.Member} → MembersRule (section f (r .header)) j p count l q → All (λ (m : M.Member). Own (m .index)) l
   members-in j Own low rule k m p = low (m .index) (rule .below p)
 
   data-in : {at : ℕ} (d : DataBelow) → DataBelowRule (section f (r .header)) (frame-of (r .header) 0) at d → DataIndices r d

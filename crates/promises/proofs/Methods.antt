@@ -41,8 +41,8 @@ use Rattle.table_readers.specs.Tables.{classIn}
 use Rattle.class_readers.specs.declared.Spot.{Spot}
 use Rattle.class_readers.specs.Spots.{onward, spotAt, dataIn, dataSpot, methodUnder, methodSpot, debugUnder, debugSpot}
 use Rattle.class_readers.specs.Members.{countsUnder, classData, memberUnder, memberNumber, flagsIn, memberFlags, contentOf, memberContent}
-use Rattle.code_readers.specs.Code.{codeIn, outlineUnder, codeOf, tryUnder, tryNumber, coverUnder, coveringTry, handlersIn, handlerCount, handlerUnder, handlerNumber, pairUnder, handlerPair, unitsUnder, unitsOf, unitsOver, unitsIn, unitsContent}
-use Rattle.debug_readers.specs.Debug.{wholeUnder, debugWhole, extentUnder, debugOf, nameUnder, parameterName, programOf, lineProgram}
+use Rattle.code_readers.specs.Code.{codeIn, outlineUnder, methodCode, tryUnder, tryNumber, coverUnder, coveringTry, handlersIn, handlerCount, handlerUnder, handlerNumber, pairUnder, handlerPair, unitsUnder, methodUnits, unitsOver, unitsIn, unitsContent}
+use Rattle.debug_readers.specs.Debug.{wholeUnder, debugWhole, extentUnder, methodDebug, nameUnder, parameterName, programOf, lineProgram}
 use Rattle.class_walk.specs.Methods.{Body, DataBelow}
 use Rattle.class_walk.specs.Classes.{ClassBelow}
 use Rattle.class_walk.specs.Rules.{BodyRule, MethodRule, DataBelowRule}
@@ -184,7 +184,7 @@ abbrev there-is : {A : Type 0} → Outcome A → Outcome (Option A)
 there-is {A} o = o >>= λ (a : A). answer (some a)
 
 pub methods-agree : (f : List ℕ) {r : File} → Reads f r → MethodReaders f r
-unfolding _>>=_ classData countsUnder extentAt memberNumber memberUnder memberFlags flagsIn memberContent codeOf outlineUnder outlineAt unitsOf unitsUnder codeIn unitsContent tryNumber tryUnder coveringTry coverUnder coveringOf handlerCount handlersIn handlerNumber handlerUnder handlerPair pairUnder debugOf extentUnder debugExtent parameterName nameUnder lineProgram debugWhole wholeUnder onward
+unfolding _>>=_ classData countsUnder extentAt memberNumber memberUnder memberFlags flagsIn memberContent methodCode outlineUnder outlineAt methodUnits unitsUnder codeIn unitsContent tryNumber tryUnder coveringTry coverUnder coveringOf handlerCount handlersIn handlerNumber handlerUnder handlerPair pairUnder methodDebug extentUnder debugExtent parameterName nameUnder lineProgram debugWhole wholeUnder onward
 methods-agree f {r} reads =
     record {
       class-data = λ c. data-at f reads c (countsUnder f) _ (λ at d q. bind-answer _ (bind-answer _ (data-exact s h at .complete (d .members) (q .members))));

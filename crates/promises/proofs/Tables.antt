@@ -15,17 +15,17 @@ use Rattle.refusal.proofs.Rows.{bind-assoc}
 use Rattle.header.specs.declared.Header.{Header}
 use Rattle.header.specs.Header.{headerAt, section, frame-of}
 use Rattle.header.proofs.Exactly.{header-exact}
-use Rattle.map_list.specs.declared.Entry.{Entry}
+use Rattle.map_list.specs.declared.MapEntry.{MapEntry}
 use Rattle.map_list.specs.Map.{keptAt, kept, entryNumber}
 use Rattle.map_list.proofs.Exactly.{map-exact}
 use Rattle.text.specs.Text.{Text, extent}
 use Rattle.string_ids.specs.Strings.{stringOf}
 use Rattle.string_ids.proofs.Exactly.{string-of-exact}
 use Rattle.ids.specs.declared.Proto.{Proto}
-use Rattle.ids.specs.Records.{typeAt, protoAt, memberAt, handleAt}
+use Rattle.ids.specs.Records.{typeAt, protoAt, memberIdAt, handleAt}
 use Rattle.ids.proofs.Exactly.{type-exact, proto-exact, member-exact, handle-exact}
 use Rattle.type_list.specs.TypeList.{countAt, numberAt, entryNumber as listEntry}
-use Rattle.type_list.specs.Rules.{ListRule, TypesBelowRule}
+use Rattle.type_list.specs.Rules.{TypeListRule, TypesBelowRule}
 use Rattle.type_list.specs.Below.{list-judge, listCount}
 use Rattle.type_list.proofs.Exactly.{list-exact}
 use Rattle.class_ids.specs.declared.Class.{Class}
@@ -35,7 +35,7 @@ use Rattle.value_bodies.specs.Bodies.{pick}
 use Rattle.value_bodies.proofs.Picks.{pick-none}
 use Rattle.table_readers.specs.Head.{signed-by, signatureOf, mapCount, mapEntryIn, mapEntry, handleCount}
 use Rattle.table_readers.specs.Strings.{stringNumber, stringExtentOf}
-use Rattle.table_readers.specs.Tables.{typeIn, typeName, protoIn, protoOf, fieldIn, fieldOf, methodIn, methodOf, classIn, classOf, handleUnder, handleIn, handleOf}
+use Rattle.table_readers.specs.Tables.{typeIn, typeName, protoIn, protoNumber, fieldIn, fieldNumber, methodIn, methodNumber, classIn, classNumber, handleUnder, handleIn, handleNumber}
 use Rattle.table_readers.specs.Lists as L
 use Rattle.table_readers.specs.Flags.{classFlags, contentOf, classContent}
 use Rattle.class_walk.specs.Classes.{ClassBelow}
@@ -61,7 +61,7 @@ module _ (f : List ℕ) (h : Header) where
       ∙ bind-answer _ (bind-answer _ whole)
       ∙ asked-plain (λ (n : ℕ). answer (listEntry (section f h) (list-judge h at) n)) (sized rule) (λ n a q. ap answer q) k
     where
-      sized : ListRule (section f h) (list-judge h at) l → Each (λ (n a : ℕ). listEntry (section f h) (list-judge h at) n ≡ a) (length l) l
+      sized : TypeListRule (section f h) (list-judge h at) l → Each (λ (n a : ℕ). listEntry (section f h) (list-judge h at) n ≡ a) (length l) l
       sized rule = record { count = refl; each = λ m. rule .entries .each m .stands }
 
 module _ (f : List ℕ) {r : File} (reads : Reads f r) where
@@ -90,7 +90,7 @@ module _ (f : List ℕ) {r : File} (reads : Reads f r) where
         (λ n c q. class-exact f (frame-of (r .header) 0) (r .header .end) (r .header .classes .offset) n .complete (c .own) (q .own)) n k g same
 
   -- entry k of the map stands at its place
-  entries : Each (λ (k : ℕ) (e : Entry). entryNumber f (r .header) k ≡ e) (length (r .map .entries)) (r .map .entries)
+  entries : Each (λ (k : ℕ) (e : MapEntry). entryNumber f (r .header) k ≡ e) (length (r .map .entries)) (r .map .entries)
   unfolding entryNumber
   entries = record { count = refl; each = λ m. reads .map .list .entries .each m .stands }
 
@@ -100,7 +100,7 @@ left (answer c) out = refl
 left (refused r) out = refl
 
 pub tables-agree : (f : List ℕ) {r : File} → Reads f r → TableReaders f r
-unfolding signatureOf signed-by mapCount mapEntry mapEntryIn handleCount stringNumber stringExtentOf typeName typeIn protoOf fieldOf fieldIn methodOf methodIn classOf handleOf handleIn handleUnder L.parameterCount L.parametersIn L.parameter L.parameterIn L.interfaceCount L.interfacesIn L.interface L.interfaceIn classFlags classContent
+unfolding signatureOf signed-by mapCount mapEntry mapEntryIn handleCount stringNumber stringExtentOf typeName typeIn protoNumber fieldNumber fieldIn methodNumber methodIn classNumber handleNumber handleIn handleUnder L.parameterCount L.parametersIn L.parameter L.parameterIn L.interfaceCount L.interfacesIn L.interface L.interfaceIn classFlags classContent
 tables-agree f {r} reads =
     record {
       header = header-exact f .complete (r .header) (reads .header);
@@ -113,8 +113,8 @@ tables-agree f {r} reads =
       proto = λ n. headed f reads _ ∙ sym (made-same _) ∙ proto-at f reads n _ _ (λ p q. refl);
       parameter-count = λ n. headed f reads _ ∙ proto-at f reads n _ _ (λ p q. counted f (r .header) (q .parameters));
       parameter = λ n k. headed f reads _ ∙ proto-at f reads n _ _ (λ p q. numbered f (r .header) (q .parameters) k);
-      field = λ n. headed f reads _ ∙ asked-plain (memberAt f (frame-of (r .header) 0) (r .header .types .count) (r .header .fields .offset)) (reads .fields) (λ n a q. member-exact f (frame-of (r .header) 0) (r .header .fields .offset) (r .header .types .count) n .complete a q) n;
-      method = λ n. headed f reads _ ∙ asked-plain (memberAt f (frame-of (r .header) 0) (r .header .protos .count) (r .header .methods .offset)) (reads .methods) (λ n a q. member-exact f (frame-of (r .header) 0) (r .header .methods .offset) (r .header .protos .count) n .complete a q) n;
+      field = λ n. headed f reads _ ∙ asked-plain (memberIdAt f (frame-of (r .header) 0) (r .header .types .count) (r .header .fields .offset)) (reads .fields) (λ n a q. member-exact f (frame-of (r .header) 0) (r .header .fields .offset) (r .header .types .count) n .complete a q) n;
+      method = λ n. headed f reads _ ∙ asked-plain (memberIdAt f (frame-of (r .header) 0) (r .header .protos .count) (r .header .methods .offset)) (reads .methods) (λ n a q. member-exact f (frame-of (r .header) 0) (r .header .methods .offset) (r .header .protos .count) n .complete a q) n;
       handle-count = headed f reads _ ∙ bind-answer _ (mapped f reads) ∙ ap answer (sym (reads .handles .count));
       handle = λ n. headed f reads _ ∙ bind-answer _ (mapped f reads) ∙ asked-plain (handleAt f (frame-of (r .header) (r .map .handles .count)) (r .map .handles .offset)) (reads .handles) (λ n a q. handle-exact f (frame-of (r .header) (r .map .handles .count)) (r .map .handles .offset) n .complete a q) n;
       class = λ n. headed f reads _ ∙ sym (made-same _) ∙ class-at f reads n _ _ (λ c q. refl);

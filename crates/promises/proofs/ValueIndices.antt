@@ -22,8 +22,8 @@ use Rattle.encoded_value.proofs.Layers.{AnnotationWithin, annotation-parts}
 use Rattle.encoded_value.proofs.Bounds.{named-within-extent}
 use Rattle.decoded_value.proofs.Laws.{all-below, all-there}
 use Rattle.annotation_lists.specs.Fixed.{Fixed}
-use Rattle.annotation_directories.specs.Directories.{Entry}
-use Rattle.annotation_directories.specs.Rules.{EntryRule}
+use Rattle.annotation_directories.specs.Directories.{DirectoryEntry}
+use Rattle.annotation_directories.specs.Rules.{DirectoryEntryRule}
 use Rattle.annotation_walk.specs.Below.{Under, Annotated}
 use Rattle.annotation_walk.specs.Rules.{EntryBelow, DirectoryBelow}
 use Rattle.whole_check.specs.File.{File}
@@ -119,8 +119,8 @@ module _ (f : List ℕ) {r : File} (reads : Reads f r) where
         subst (λ (x : ℕ). e .name < x) (sym (reads .strings .each .count)) (found .2 .0 .name-is .range)
 
   -- ---- the entries of a directory
-  entry-below : {B : Type 0} {Below : ℕ → B → Type 0} {item limit from count e : ℕ} {u : Under B} (l : List Entry) (us : List (Under B))
-      → Fixed (section f (r .header)) (EntryRule (section f (r .header)) (frame-of (r .header) (r .map .handles .count)) item limit) 8 from count l
+  entry-below : {B : Type 0} {Below : ℕ → B → Type 0} {item limit from count e : ℕ} {u : Under B} (l : List DirectoryEntry) (us : List (Under B))
+      → Fixed (section f (r .header)) (DirectoryEntryRule (section f (r .header)) (frame-of (r .header) (r .map .handles .count)) item limit) 8 from count l
       → Each (λ (n : ℕ) (u : Under B). EntryBelow (section f (r .header)) (frame-of (r .header) (r .map .handles .count)) Below (from + 8 * n) u) count us
       → At us e u → u .index < limit
   entry-below {limit = limit} {e = e} l us own below m =

@@ -27,7 +27,7 @@ use Rattle.encoded_value.proofs.Bounds.{Extent, Ends, uleb-extent, within-exten
 use Rattle.encoded_value.proofs.Nested.{nested-array, nested-annotation}
 use Rattle.decoded_value.specs.Shown.{shown}
 use Rattle.value_bodies.specs.Bodies.{pick, arrayCount, arrayValue, annotationNoted, annotationElement}
-use Rattle.annotation_items.specs.Items.{Item}
+use Rattle.annotation_items.specs.Items.{AnnotationItem}
 use Rattle.class_ids.specs.declared.Class.{Class}
 use Rattle.class_ids.specs.Rules.{ClassRule}
 use Rattle.value_readers.specs.Bodies as B
@@ -161,7 +161,7 @@ module _ (f : List ℕ) {r : File} (reads : Reads f r) where
   static-value-there low (found-there p rule) m = value-of-array (static-there low (found-there p rule) .1) m
 
   -- ---- each value of the file stands in it
-  pub item-body : {a : Item} → ItemIn r a → (e : ℕ) × Body-there (a .place) (a .place + 1) e (a .annotation)
+  pub item-body : {a : AnnotationItem} → ItemIn r a → (e : ℕ) × Body-there (a .place) (a .place + 1) e (a .annotation)
   item-body i =
       let rule = item-in f reads i .rule in
       let l = item-in f reads i .allows .from in

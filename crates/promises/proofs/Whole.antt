@@ -11,7 +11,7 @@ use Rattle.header.specs.Header.{frame-of}
 use Rattle.header.proofs.Exactly.{header-exact}
 use Rattle.map_list.proofs.Exactly.{map-exact}
 use Rattle.string_ids.proofs.Exactly.{strings-exact}
-use Rattle.ids.specs.Rules.{MemberRule, HandleRule}
+use Rattle.ids.specs.Rules.{MemberIdRule, HandleRule}
 use Rattle.type_list.proofs.Exactly.{types-below-exact}
 use Rattle.ids.proofs.Exactly.{types-exact, proto-exact, member-exact, handle-exact}
 use Rattle.class_walk.specs.Classes.{classBelow}
@@ -34,8 +34,8 @@ file-exact f =
     bind-exact _ _ (strings-exact f h) (λ s.
     bind-exact _ _ (types-exact f (frame-of h 0) (h .types .offset) (h .types .count)) (λ t.
     bind-exact _ _ (every-exact (ProtoBelowRule f h) (protoBelow f h) (proto-below-exact f h) (h .protos .count)) (λ p.
-    bind-exact _ _ (every-exact (MemberRule f (frame-of h 0) (h .types .count) (h .fields .offset)) (fieldAt f h) (member-exact f (frame-of h 0) (h .fields .offset) (h .types .count)) (h .fields .count)) (λ x.
-    bind-exact _ _ (every-exact (MemberRule f (frame-of h 0) (h .protos .count) (h .methods .offset)) (methodAt f h) (member-exact f (frame-of h 0) (h .methods .offset) (h .protos .count)) (h .methods .count)) (λ y.
+    bind-exact _ _ (every-exact (MemberIdRule f (frame-of h 0) (h .types .count) (h .fields .offset)) (fieldAt f h) (member-exact f (frame-of h 0) (h .fields .offset) (h .types .count)) (h .fields .count)) (λ x.
+    bind-exact _ _ (every-exact (MemberIdRule f (frame-of h 0) (h .protos .count) (h .methods .offset)) (methodAt f h) (member-exact f (frame-of h 0) (h .methods .offset) (h .protos .count)) (h .methods .count)) (λ y.
     bind-exact _ _ (every-exact (HandleRule f (frame-of h (m .handles .count)) (m .handles .offset)) (handleIn f h m) (handle-exact f (frame-of h (m .handles .count)) (m .handles .offset)) (m .handles .count)) (λ z.
     bind-exact _ _ (every-exact (ClassBelowRule f h (m .handles .count)) (classBelow f h (m .handles .count)) (C.class-below-exact f h (m .handles .count)) (h .classes .count)) (λ c.
     answer-exact _))))))))))

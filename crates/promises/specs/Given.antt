@@ -15,12 +15,12 @@ use Rattle.encoded_value.specs.Tree.{Named, Tree, index, array, annotation, tre
 use Rattle.decoded_value.specs.Shown.{shown}
 use Rattle.table_readers.specs.Head.{signatureOf, mapCount, mapEntry, handleCount}
 use Rattle.table_readers.specs.Strings.{findString}
-use Rattle.table_readers.specs.Tables.{classOf}
+use Rattle.table_readers.specs.Tables.{classNumber}
 use Rattle.table_readers.specs.Lists as L
 use Rattle.table_readers.specs.Flags.{classFlags}
 use Rattle.class_readers.specs.Members.{classData}
 use Rattle.directory_readers.specs.Directories as D
-use Rattle.set_readers.specs.Sets.{classSet, countOf, placeOf}
+use Rattle.set_readers.specs.Sets.{classSet, annotationCount, annotationPlace}
 use Rattle.value_readers.specs.Statics.{staticCount, staticValue}
 use Rattle.class_walk.specs.Classes.{ClassBelow}
 use Rattle.whole_check.specs.File.{File, checkAt}
@@ -37,7 +37,7 @@ use Rattle.promises.specs.MethodsAnswered.{DataAnswered}
 pub record ClassAnswered (f : List ℕ) (r : File) (n : ℕ) : Type 0 where
   pub row : ClassBelow
   pub row-is : At (r .classes) n row
-  pub class : classOf f n ≡ answer (row .own)
+  pub class : classNumber f n ≡ answer (row .own)
   pub own-type : TypeAnswered f r (row .own .class)
   pub superclass : If-given (TypeAnswered f r) (row .own .superclass)
   pub source : If-given (StringAnswered f r) (row .own .source)
@@ -51,7 +51,7 @@ pub record ClassAnswered (f : List ℕ) (r : File) (n : ℕ) : Type 0 where
   pub directory : D.directory f n ≡ answer (head-of (row .annotations))
   pub directory-below : LeadsTo (row .own .directory) (row .annotations) (DirectoryAnswered f r n)
   -- dex::class_annotation_count, dex::class_annotation_place
-  pub class-set : SetAnswered f r (countOf f (classSet f n)) (placeOf f (classSet f n)) (under (λ d. listed (d .own)) (row .annotations))
+  pub class-set : SetAnswered f r (annotationCount f (classSet f n)) (annotationPlace f (classSet f n)) (under (λ d. listed (d .own)) (row .annotations))
   -- ---- class data
   pub class-data : classData f n ≡ answer (none-or (λ d. counts (d .members)) (row .members))
   pub class-data-below : LeadsTo (row .own .«data») (row .members) (DataAnswered f r n)

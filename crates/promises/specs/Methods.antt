@@ -22,8 +22,8 @@ use Rattle.code_item.specs.Code.{outline, Linked, handed}
 use Rattle.debug_info.specs.Debug.{Debug, Extent}
 use Rattle.class_readers.specs.Spots.{onward}
 use Rattle.class_readers.specs.Members.{classData, memberNumber, memberFlags, contentOf, memberContent}
-use Rattle.code_readers.specs.Code.{codeOf, unitsOf, unitsContent, tryNumber, coveringTry, handlerCount, handlerNumber, handlerPair}
-use Rattle.debug_readers.specs.Debug.{debugOf, parameterName, programOf, lineProgram}
+use Rattle.code_readers.specs.Code.{methodCode, methodUnits, unitsContent, tryNumber, coveringTry, handlerCount, handlerNumber, handlerPair}
+use Rattle.debug_readers.specs.Debug.{methodDebug, parameterName, programOf, lineProgram}
 use Rattle.class_walk.specs.Methods.{Body, DataBelow}
 use Rattle.whole_check.specs.File.{File}
 use Rattle.promises.specs.Tables.{part-of}
@@ -80,9 +80,9 @@ pub record MethodReaders (f : List ℕ) (r : File) : Type 1 where
   pub member : (c list k : ℕ) → memberNumber f c list k ≡ member-of r c list k
   pub member-flags : (c list k room : ℕ) → memberFlags f c list k room ≡ if-any (member-of r c list k) (λ m. written false (m .flags) room)
   pub member-content : (c list k : ℕ) (out : List ℕ) → memberContent f c list k out ≡ contentOf (member-of r c list k) out
-  pub code : (c list k : ℕ) → codeOf f c list k ≡ if-any (code-of r c list k) (λ x. answer (outline x))
+  pub code : (c list k : ℕ) → methodCode f c list k ≡ if-any (code-of r c list k) (λ x. answer (outline x))
   -- "Instructions are handed out as 16-bit units into a lent output"
-  pub units : (c list k room : ℕ) → unitsOf f c list k room ≡ if-any (code-of r c list k) (λ x. given (leb (length (x .units)) room) 19 0 (answer (length (x .units))))
+  pub units : (c list k room : ℕ) → methodUnits f c list k room ≡ if-any (code-of r c list k) (λ x. given (leb (length (x .units)) room) 19 0 (answer (length (x .units))))
   pub units-content : (c list k : ℕ) (out : List ℕ) → unitsContent f c list k out ≡ units-left (code-of r c list k) out
   pub try-item : (c list k t : ℕ) → tryNumber f c list k t ≡ if-any (code-of r c list k) (try-of t)
   pub covering-try : (c list k address : ℕ) → coveringTry f c list k address ≡ (code-of r c list k >>= onward (λ (x : Code). answer (position (covers address) (x .tries))))
@@ -91,7 +91,7 @@ pub record MethodReaders (f : List ℕ) (r : File) : Type 1 where
   pub handler-count : (c list k : ℕ) → handlerCount f c list k ≡ if-any (code-of r c list k) (λ x. answer (length (x .handlers .handlers)))
   pub handler : (c list k h : ℕ) → handlerNumber f c list k h ≡ if-any (code-of r c list k) (λ x. part-of h (x .handlers .handlers) (λ y. answer (handed y)))
   pub handler-pair : (c list k h p : ℕ) → handlerPair f c list k h p ≡ if-any (code-of r c list k) (λ x. part-of h (x .handlers .handlers) (λ y. pick p (y .pairs)))
-  pub debug : (c list k : ℕ) → debugOf f c list k ≡ if-any (debug-of r c list k) (λ d. answer (extent-of d))
+  pub debug : (c list k : ℕ) → methodDebug f c list k ≡ if-any (debug-of r c list k) (λ d. answer (extent-of d))
   pub debug-parameter : (c list k p : ℕ) → parameterName f c list k p ≡ if-any (debug-of r c list k) (λ d. pick p (d .names))
   -- "a line program that ends at the first zero byte, handed back without it"
   pub line-program : (c list k : ℕ) → lineProgram f c list k ≡ programOf (debug-of r c list k)

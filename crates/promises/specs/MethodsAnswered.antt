@@ -15,8 +15,8 @@ use Rattle.code_bodies.specs.Code.{Code}
 use Rattle.code_item.specs.Code.{outline, handed}
 use Rattle.debug_info.specs.Debug.{Debug}
 use Rattle.class_readers.specs.Members.{memberNumber, memberFlags}
-use Rattle.code_readers.specs.Code.{codeOf, unitsOf, tryNumber, coveringTry, handlerCount, handlerNumber, handlerPair}
-use Rattle.debug_readers.specs.Debug.{debugOf, parameterName, lineProgram}
+use Rattle.code_readers.specs.Code.{methodCode, methodUnits, tryNumber, coveringTry, handlerCount, handlerNumber, handlerPair}
+use Rattle.debug_readers.specs.Debug.{methodDebug, parameterName, lineProgram}
 use Rattle.class_walk.specs.Methods.{Body, DataBelow}
 use Rattle.whole_check.specs.File.{File}
 use Rattle.promises.specs.Tables.{listed}
@@ -69,12 +69,12 @@ module _ (f : List ℕ) (r : File) (c list k : ℕ) where
 
   -- the body of a method whose code is at an offset, none where it has no code
   pub record BodyAnswered (offset : ℕ) (o : Option Body) : Type 0 where
-    pub code : codeOf f c list k ≡ answer (none-or (λ b. outline (b .code)) o)
+    pub code : methodCode f c list k ≡ answer (none-or (λ b. outline (b .code)) o)
     -- into an output that has room for them
-    pub units : (room : ℕ) → If-there (λ b. unit-count b ≤ room) o → unitsOf f c list k room ≡ answer (none-or unit-count o)
+    pub units : (room : ℕ) → If-there (λ b. unit-count b ≤ room) o → methodUnits f c list k room ≡ answer (none-or unit-count o)
     pub covering-try : (address : ℕ) → Answers (coveringTry f c list k address)
     pub handler-count : handlerCount f c list k ≡ answer (none-or (λ b. length (b .code .handlers .handlers)) o)
-    pub debug : debugOf f c list k ≡ answer (none-or extent-of (debug-in o))
+    pub debug : methodDebug f c list k ≡ answer (none-or extent-of (debug-in o))
     -- no bytes where there is none
     pub line-program : lineProgram f c list k ≡ listed (none-or (λ d. d .program) (debug-in o))
     pub code-below : LeadsTo offset o CodeAnswered

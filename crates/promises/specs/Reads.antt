@@ -8,7 +8,7 @@ use Rattle.header.specs.Rules.{HeaderRule}
 use Rattle.map_list.specs.Rules.{MapRule}
 use Rattle.string_ids.specs.Rules.{StringsRule}
 use Rattle.type_list.specs.Rules.{TypesBelowRule}
-use Rattle.ids.specs.Rules.{TypesRule, ProtoRule, MemberRule, HandleRule}
+use Rattle.ids.specs.Rules.{TypeTableRule, ProtoRule, MemberIdRule, HandleRule}
 use Rattle.class_walk.specs.Rules as W
 use Rattle.whole_check.specs.File.{ProtoBelow, File}
 
@@ -22,10 +22,10 @@ pub record Reads (f : List ℕ) (r : File) : Type 0 where
   pub header : HeaderRule f (r .header)
   pub map : MapRule f (r .header) (r .map)
   pub strings : StringsRule f (r .header) (r .strings)
-  pub types : TypesRule f (frame-of (r .header) 0) (r .header .types .offset) (r .header .types .count) (r .types)
+  pub types : TypeTableRule f (frame-of (r .header) 0) (r .header .types .offset) (r .header .types .count) (r .types)
   pub protos : Each (ProtoBelowRule f (r .header)) (r .header .protos .count) (r .protos)
-  pub fields : Each (MemberRule f (frame-of (r .header) 0) (r .header .types .count) (r .header .fields .offset)) (r .header .fields .count) (r .fields)
-  pub methods : Each (MemberRule f (frame-of (r .header) 0) (r .header .protos .count) (r .header .methods .offset)) (r .header .methods .count) (r .methods)
+  pub fields : Each (MemberIdRule f (frame-of (r .header) 0) (r .header .types .count) (r .header .fields .offset)) (r .header .fields .count) (r .fields)
+  pub methods : Each (MemberIdRule f (frame-of (r .header) 0) (r .header .protos .count) (r .header .methods .offset)) (r .header .methods .count) (r .methods)
   pub handles : Each (HandleRule f (frame-of (r .header) (r .map .handles .count)) (r .map .handles .offset)) (r .map .handles .count) (r .handles)
   pub classes : Each (W.ClassBelowRule f (r .header) (r .map .handles .count)) (r .header .classes .count) (r .classes)
 

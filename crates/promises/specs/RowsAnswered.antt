@@ -7,10 +7,10 @@ use lib.ListN.{length}
 use Rattle.refusal.specs.Outcome.{Outcome, answer}
 use Rattle.refusal.specs.Exact.{At}
 use Rattle.text.specs.Text.{Text}
-use Rattle.ids.specs.declared.Member.{Member}
+use Rattle.ids.specs.declared.MemberId.{MemberId}
 use Rattle.ids.specs.declared.Handle.{Handle}
 use Rattle.table_readers.specs.Strings.{stringNumber, stringExtentOf, bytesOf}
-use Rattle.table_readers.specs.Tables.{typeName, protoOf, fieldOf, methodOf, handleOf}
+use Rattle.table_readers.specs.Tables.{typeName, protoNumber, fieldNumber, methodNumber, handleNumber}
 use Rattle.table_readers.specs.Lists as L
 use Rattle.whole_check.specs.File.{ProtoBelow, File}
 use Rattle.promises.specs.Tables.{listed}
@@ -39,7 +39,7 @@ module _ (f : List ℕ) (r : File) where
   pub record ProtoAnswered (n : ℕ) : Type 0 where
     pub row : ProtoBelow
     pub row-is : At (r .protos) n row
-    pub proto : protoOf f n ≡ answer (row .own)
+    pub proto : protoNumber f n ≡ answer (row .own)
     pub shorty : StringAnswered (row .own .shorty)
     pub return-type : TypeAnswered (row .own .«return_type»)
     pub parameters-there : 0 < row .own .parameters → There (row .parameters)
@@ -48,18 +48,18 @@ module _ (f : List ℕ) (r : File) where
 
   -- dex::field
   pub record FieldAnswered (n : ℕ) : Type 0 where
-    pub row : Member
+    pub row : MemberId
     pub row-is : At (r .fields) n row
-    pub field : fieldOf f n ≡ answer row
+    pub field : fieldNumber f n ≡ answer row
     pub class : TypeAnswered (row .class)
     pub kind : TypeAnswered (row .kind)
     pub name : StringAnswered (row .name)
 
   -- dex::method
   pub record MethodAnswered (n : ℕ) : Type 0 where
-    pub row : Member
+    pub row : MemberId
     pub row-is : At (r .methods) n row
-    pub method : methodOf f n ≡ answer row
+    pub method : methodNumber f n ≡ answer row
     pub class : TypeAnswered (row .class)
     pub kind : ProtoAnswered (row .kind)
     pub name : StringAnswered (row .name)
@@ -68,6 +68,6 @@ module _ (f : List ℕ) (r : File) where
   pub record HandleAnswered (n : ℕ) : Type 0 where
     pub row : Handle
     pub row-is : At (r .handles) n row
-    pub handle : handleOf f n ≡ answer row
+    pub handle : handleNumber f n ≡ answer row
     pub names-field : row .kind ≤ 3 → FieldAnswered (row .number)
     pub names-method : 3 < row .kind → MethodAnswered (row .number)

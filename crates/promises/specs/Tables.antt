@@ -14,7 +14,7 @@ use Rattle.value_bodies.specs.Bodies.{pick}
 use Rattle.access_flags.specs.Flags.{written, content}
 use Rattle.table_readers.specs.Head.{signatureOf, mapCount, mapEntry, handleCount}
 use Rattle.table_readers.specs.Strings.{stringNumber, stringExtentOf}
-use Rattle.table_readers.specs.Tables.{typeName, protoOf, fieldOf, methodOf, classOf, handleOf}
+use Rattle.table_readers.specs.Tables.{typeName, protoNumber, fieldNumber, methodNumber, classNumber, handleNumber}
 use Rattle.table_readers.specs.Lists as L
 use Rattle.table_readers.specs.Flags.{classFlags, classContent}
 use Rattle.class_walk.specs.Classes.{ClassBelow}
@@ -42,14 +42,14 @@ pub record TableReaders (f : List ℕ) (r : File) : Type 0 where
   pub string : (n : ℕ) → stringExtentOf f n ≡ part-of n (r .strings) extent
   pub string-bytes : (n : ℕ) → stringNumber f n ≡ pick n (r .strings)
   pub type-name : (n : ℕ) → typeName f n ≡ pick n (r .types)
-  pub proto : (n : ℕ) → protoOf f n ≡ part-of n (r .protos) (λ p. answer (p .own))
+  pub proto : (n : ℕ) → protoNumber f n ≡ part-of n (r .protos) (λ p. answer (p .own))
   pub parameter-count : (n : ℕ) → L.parameterCount f n ≡ part-of n (r .protos) (λ p. answer (length (listed (p .parameters))))
   pub parameter : (n k : ℕ) → L.parameter f n k ≡ part-of n (r .protos) (λ p. pick k (listed (p .parameters)))
-  pub field : (n : ℕ) → fieldOf f n ≡ pick n (r .fields)
-  pub method : (n : ℕ) → methodOf f n ≡ pick n (r .methods)
+  pub field : (n : ℕ) → fieldNumber f n ≡ pick n (r .fields)
+  pub method : (n : ℕ) → methodNumber f n ≡ pick n (r .methods)
   pub handle-count : handleCount f ≡ answer (length (r .handles))
-  pub handle : (n : ℕ) → handleOf f n ≡ pick n (r .handles)
-  pub class : (n : ℕ) → classOf f n ≡ part-of n (r .classes) (λ c. answer (c .own))
+  pub handle : (n : ℕ) → handleNumber f n ≡ pick n (r .handles)
+  pub class : (n : ℕ) → classNumber f n ≡ part-of n (r .classes) (λ c. answer (c .own))
   pub interface-count : (n : ℕ) → L.interfaceCount f n ≡ part-of n (r .classes) (λ c. answer (length (listed (c .interfaces))))
   pub interface : (n k : ℕ) → L.interface f n k ≡ part-of n (r .classes) (λ c. pick k (listed (c .interfaces)))
   pub class-flags : (n room : ℕ) → classFlags f n room ≡ part-of n (r .classes) (λ c. written true (c .own .flags) room)

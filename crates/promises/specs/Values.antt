@@ -11,7 +11,7 @@ use Rattle.value_heads.specs.Kinds.{walkOf}
 use Rattle.encoded_value.specs.Tree.{Named, Tree, array, annotation, trees, elements-of}
 use Rattle.encoded_value.specs.Rules.{ArrayRule}
 use Rattle.decoded_value.specs.Shown.{shown}
-use Rattle.annotation_items.specs.Items.{Item}
+use Rattle.annotation_items.specs.Items.{AnnotationItem}
 use Rattle.value_readers.specs.Bodies.{arrayOf, arrayValueOf, bodyOf, elementOf}
 use Rattle.value_readers.specs.Statics.{staticCount, staticValue}
 use Rattle.class_walk.specs.Classes.{ClassBelow}
@@ -22,7 +22,7 @@ use Rattle.promises.specs.Annotations.{element-shown, ItemIn}
 -- a value of the file, at any depth: a static value, the value of an annotation's element, or one inside an array or an annotation that is a value of the file
 pub data ValueIn (r : File) : Tree → Type 0 where
   a-static : {n k : ℕ} {c : ClassBelow} {v : Tree} → At (r .classes) n c → At (listed (c .values)) k v → ValueIn r v
-  of-item : {k : ℕ} {a : Item} {e : Named} → ItemIn r a → At (a .annotation .elements) k e → ValueIn r (e .value)
+  of-item : {k : ℕ} {a : AnnotationItem} {e : Named} → ItemIn r a → At (a .annotation .elements) k e → ValueIn r (e .value)
   in-array : {p q k : ℕ} {vs : List Tree} {v : Tree} → ValueIn r (array p q (trees vs)) → At vs k v → ValueIn r v
   in-annotation : {p q t k : ℕ} {es : List Named} {e : Named} → ValueIn r (annotation p q t (elements-of es)) → At es k e → ValueIn r (e .value)
 

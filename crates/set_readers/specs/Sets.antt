@@ -8,13 +8,13 @@ use lib.Dec.{ltb}
 use Rattle.refusal.specs.Outcome.{Outcome, answer, refused, _>>=_}
 use Rattle.header.specs.declared.Header.{Header}
 use Rattle.header.specs.Header.{section, frame-of}
-use Rattle.annotation_directories.specs.declared.Head.{Head}
+use Rattle.annotation_directories.specs.declared.DirectoryHead.{DirectoryHead}
 use Rattle.annotation_lists.specs.Offsets.{offsetCount, offsetNumber}
 use Rattle.directory_readers.specs.declared.Reached.{Reached}
 use Rattle.directory_readers.specs.Directories.{directoryOf, headIn, entryIn}
 
 -- ---- where a set is, 0 where it is absent
-abbrev pub set-of : Option Head → ℕ
+abbrev pub set-of : Option DirectoryHead → ℕ
 set-of none = 0
 set-of (some d) = d .set
 
@@ -59,8 +59,8 @@ unfoldable pub setNumber : List ℕ → Header → ℕ → ℕ → Outcome ℕ
 setNumber f h at k = cond (ltb 0 at) (offsetNumber (section f h) (frame-of h 0) at false false k) (refused (record { number = 7; place = 0 }))
 
 -- the same of a set that is reached, if it is
-unfoldable pub countOf : List ℕ → Outcome Reached → Outcome ℕ
-countOf f set = set >>= λ s. setCount f (s .header) (s .place)
+unfoldable pub annotationCount : List ℕ → Outcome Reached → Outcome ℕ
+annotationCount f set = set >>= λ s. setCount f (s .header) (s .place)
 
-unfoldable pub placeOf : List ℕ → Outcome Reached → ℕ → Outcome ℕ
-placeOf f set k = set >>= λ s. setNumber f (s .header) (s .place) k
+unfoldable pub annotationPlace : List ℕ → Outcome Reached → ℕ → Outcome ℕ
+annotationPlace f set k = set >>= λ s. setNumber f (s .header) (s .place) k

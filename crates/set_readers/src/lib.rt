@@ -1,7 +1,7 @@
 // The readers of annotations by number, each over a lent file: how many a set has, and where each is; the directory first, whole, then each item on the way,
 // each followed by 7 for its inner number. One piece serves the sets of class, field, method and parameter; a set that is absent is empty.
-use annotation_directories::EntryAnswer;
-use annotation_lists::Word;
+use annotation_directories::DirectoryEntryAnswer;
+use annotation_lists::WordAnswer;
 use directory_readers::DirectoryAnswer;
 use directory_readers::Reached;
 use directory_readers::ReachedAnswer;
@@ -10,7 +10,7 @@ use refusal::Refusal;
 ghost use mathlib.Core.Path.{_≡_};
 ghost use Rattle.annotation_lists.specs.Answers.{word-outcome};
 ghost use Rattle.set_readers.specs.Sets.{classSetIn, classSet, entrySetIn, entrySet, parameterSetIn, parameterSet};
-ghost use Rattle.set_readers.specs.Sets.{referencesIn, parameterSetCount, setCount, setNumber, countOf, placeOf};
+ghost use Rattle.set_readers.specs.Sets.{referencesIn, parameterSetCount, setCount, setNumber, annotationCount, annotationPlace};
 ghost use Rattle.directory_readers.specs.Answers.{reached-outcome};
 
 // Where the class's set is, by the directory at a place.
@@ -47,8 +47,8 @@ fn entry_set_in(f: &[u8], h: Header, at: u32, list: u32, e: u32) -> ReachedAnswe
     ensures { λ r. ⌜ reached-outcome r ≡ entrySetIn (now (f .entry)) h at list e ⌝ }
 {
     match directory_readers::entry_in(f, h, at, list, e) {
-        EntryAnswer::Refused(r) => ReachedAnswer::Refused(r),
-        EntryAnswer::Got { index: _, offset } => ReachedAnswer::Got(Reached {
+        DirectoryEntryAnswer::Refused(r) => ReachedAnswer::Refused(r),
+        DirectoryEntryAnswer::Got { index: _, offset } => ReachedAnswer::Got(Reached {
             header: h,
             place: offset,
         }),
@@ -77,8 +77,8 @@ fn parameter_set_in(f: &[u8], h: Header, at: u32, p: u32) -> ReachedAnswer
         at as usize,
         p,
     ) {
-        Word::Refused(r) => ReachedAnswer::Refused(r),
-        Word::Got(place) => ReachedAnswer::Got(Reached { header: h, place }),
+        WordAnswer::Refused(r) => ReachedAnswer::Refused(r),
+        WordAnswer::Got(place) => ReachedAnswer::Got(Reached { header: h, place }),
     }
 }
 
@@ -94,7 +94,7 @@ fn parameter_set(f: &[u8], c: u32, e: u32, p: u32) -> ReachedAnswer
     }
 }
 
-fn references_in(f: &[u8], h: Header, at: u32) -> Word
+fn references_in(f: &[u8], h: Header, at: u32) -> WordAnswer
     ensures { λ r. ⌜ word-outcome r ≡ referencesIn (now (f .entry)) h at ⌝ }
 {
     annotation_lists::reference_count(
@@ -105,11 +105,11 @@ fn references_in(f: &[u8], h: Header, at: u32) -> Word
 }
 
 // How many parameters, absent sets too, parameter entry e of class c has.
-pub fn parameter_set_count(f: &[u8], c: u32, e: u32) -> Word
+pub fn parameter_set_count(f: &[u8], c: u32, e: u32) -> WordAnswer
     ensures { λ r. ⌜ word-outcome r ≡ parameterSetCount (now (f .entry)) c e ⌝ }
 {
     match entry_set(f, c, 2, e) {
-        ReachedAnswer::Refused(r) => Word::Refused(r),
+        ReachedAnswer::Refused(r) => WordAnswer::Refused(r),
         ReachedAnswer::Got(l) => {
             let h = l.header;
             references_in(f, h, l.place)
@@ -118,7 +118,7 @@ pub fn parameter_set_count(f: &[u8], c: u32, e: u32) -> Word
 }
 
 // How many annotations the set at a place has, 0 where it is absent.
-fn set_count(f: &[u8], h: Header, at: u32) -> Word
+fn set_count(f: &[u8], h: Header, at: u32) -> WordAnswer
     ensures { λ r. ⌜ word-outcome r ≡ setCount (now (f .entry)) h at ⌝ }
 {
     if 0 < at {
@@ -128,10 +128,10 @@ fn set_count(f: &[u8], h: Header, at: u32) -> Word
             at as usize,
         );
     }
-    Word::Got(0)
+    WordAnswer::Got(0)
 }
 
-fn set_number(f: &[u8], h: Header, at: u32, k: u32) -> Word
+fn set_number(f: &[u8], h: Header, at: u32, k: u32) -> WordAnswer
     ensures { λ r. ⌜ word-outcome r ≡ setNumber (now (f .entry)) h at k ⌝ }
 {
     if 0 < at {
@@ -142,18 +142,18 @@ fn set_number(f: &[u8], h: Header, at: u32, k: u32) -> Word
             k,
         );
     }
-    Word::Refused(Refusal {
+    WordAnswer::Refused(Refusal {
         number: 7,
         place: 0,
     })
 }
 
 // How many annotations the set has that was reached.
-fn count_of(f: &[u8], set: ReachedAnswer) -> Word
-    ensures { λ r. ⌜ word-outcome r ≡ countOf (now (f .entry)) (reached-outcome set) ⌝ }
+fn count_of(f: &[u8], set: ReachedAnswer) -> WordAnswer
+    ensures { λ r. ⌜ word-outcome r ≡ annotationCount (now (f .entry)) (reached-outcome set) ⌝ }
 {
     match set {
-        ReachedAnswer::Refused(r) => Word::Refused(r),
+        ReachedAnswer::Refused(r) => WordAnswer::Refused(r),
         ReachedAnswer::Got(s) => {
             let h = s.header;
             set_count(f, h, s.place)
@@ -162,11 +162,11 @@ fn count_of(f: &[u8], set: ReachedAnswer) -> Word
 }
 
 // Where annotation k of the set is that was reached.
-fn place_of(f: &[u8], set: ReachedAnswer, k: u32) -> Word
-    ensures { λ r. ⌜ word-outcome r ≡ placeOf (now (f .entry)) (reached-outcome set) k ⌝ }
+fn place_of(f: &[u8], set: ReachedAnswer, k: u32) -> WordAnswer
+    ensures { λ r. ⌜ word-outcome r ≡ annotationPlace (now (f .entry)) (reached-outcome set) k ⌝ }
 {
     match set {
-        ReachedAnswer::Refused(r) => Word::Refused(r),
+        ReachedAnswer::Refused(r) => WordAnswer::Refused(r),
         ReachedAnswer::Got(s) => {
             let h = s.header;
             set_number(f, h, s.place, k)
@@ -175,57 +175,57 @@ fn place_of(f: &[u8], set: ReachedAnswer, k: u32) -> Word
 }
 
 // How many annotations class c has.
-pub fn class_annotation_count(f: &[u8], c: u32) -> Word
-    ensures { λ r. ⌜ word-outcome r ≡ countOf (now (f .entry)) (classSet (now (f .entry)) c) ⌝ }
+pub fn class_annotation_count(f: &[u8], c: u32) -> WordAnswer
+    ensures { λ r. ⌜ word-outcome r ≡ annotationCount (now (f .entry)) (classSet (now (f .entry)) c) ⌝ }
 {
     count_of(f, class_set(f, c))
 }
 
 // Where annotation k of class c is.
-pub fn class_annotation_place(f: &[u8], c: u32, k: u32) -> Word
-    ensures { λ r. ⌜ word-outcome r ≡ placeOf (now (f .entry)) (classSet (now (f .entry)) c) k ⌝ }
+pub fn class_annotation_place(f: &[u8], c: u32, k: u32) -> WordAnswer
+    ensures { λ r. ⌜ word-outcome r ≡ annotationPlace (now (f .entry)) (classSet (now (f .entry)) c) k ⌝ }
 {
     place_of(f, class_set(f, c), k)
 }
 
 // How many annotations field entry e of class c has.
-pub fn field_annotation_count(f: &[u8], c: u32, e: u32) -> Word
-    ensures { λ r. ⌜ word-outcome r ≡ countOf (now (f .entry)) (entrySet (now (f .entry)) c 0 e) ⌝ }
+pub fn field_annotation_count(f: &[u8], c: u32, e: u32) -> WordAnswer
+    ensures { λ r. ⌜ word-outcome r ≡ annotationCount (now (f .entry)) (entrySet (now (f .entry)) c 0 e) ⌝ }
 {
     count_of(f, entry_set(f, c, 0, e))
 }
 
 // Where annotation k of field entry e of class c is.
-pub fn field_annotation_place(f: &[u8], c: u32, e: u32, k: u32) -> Word
-    ensures { λ r. ⌜ word-outcome r ≡ placeOf (now (f .entry)) (entrySet (now (f .entry)) c 0 e) k ⌝ }
+pub fn field_annotation_place(f: &[u8], c: u32, e: u32, k: u32) -> WordAnswer
+    ensures { λ r. ⌜ word-outcome r ≡ annotationPlace (now (f .entry)) (entrySet (now (f .entry)) c 0 e) k ⌝ }
 {
     place_of(f, entry_set(f, c, 0, e), k)
 }
 
 // How many annotations method entry e of class c has.
-pub fn method_annotation_count(f: &[u8], c: u32, e: u32) -> Word
-    ensures { λ r. ⌜ word-outcome r ≡ countOf (now (f .entry)) (entrySet (now (f .entry)) c 1 e) ⌝ }
+pub fn method_annotation_count(f: &[u8], c: u32, e: u32) -> WordAnswer
+    ensures { λ r. ⌜ word-outcome r ≡ annotationCount (now (f .entry)) (entrySet (now (f .entry)) c 1 e) ⌝ }
 {
     count_of(f, entry_set(f, c, 1, e))
 }
 
 // Where annotation k of method entry e of class c is.
-pub fn method_annotation_place(f: &[u8], c: u32, e: u32, k: u32) -> Word
-    ensures { λ r. ⌜ word-outcome r ≡ placeOf (now (f .entry)) (entrySet (now (f .entry)) c 1 e) k ⌝ }
+pub fn method_annotation_place(f: &[u8], c: u32, e: u32, k: u32) -> WordAnswer
+    ensures { λ r. ⌜ word-outcome r ≡ annotationPlace (now (f .entry)) (entrySet (now (f .entry)) c 1 e) k ⌝ }
 {
     place_of(f, entry_set(f, c, 1, e), k)
 }
 
 // How many annotations parameter p of parameter entry e of class c has.
-pub fn parameter_annotation_count(f: &[u8], c: u32, e: u32, p: u32) -> Word
-    ensures { λ r. ⌜ word-outcome r ≡ countOf (now (f .entry)) (parameterSet (now (f .entry)) c e p) ⌝ }
+pub fn parameter_annotation_count(f: &[u8], c: u32, e: u32, p: u32) -> WordAnswer
+    ensures { λ r. ⌜ word-outcome r ≡ annotationCount (now (f .entry)) (parameterSet (now (f .entry)) c e p) ⌝ }
 {
     count_of(f, parameter_set(f, c, e, p))
 }
 
 // Where annotation k of parameter p of parameter entry e of class c is.
-pub fn parameter_annotation_place(f: &[u8], c: u32, e: u32, p: u32, k: u32) -> Word
-    ensures { λ r. ⌜ word-outcome r ≡ placeOf (now (f .entry)) (parameterSet (now (f .entry)) c e p) k ⌝ }
+pub fn parameter_annotation_place(f: &[u8], c: u32, e: u32, p: u32, k: u32) -> WordAnswer
+    ensures { λ r. ⌜ word-outcome r ≡ annotationPlace (now (f .entry)) (parameterSet (now (f .entry)) c e p) k ⌝ }
 {
     place_of(f, parameter_set(f, c, e, p), k)
 }

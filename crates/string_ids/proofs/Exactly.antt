@@ -20,12 +20,12 @@ use Rattle.text_order.specs.Order.{Before}
 use Rattle.text.proofs.Exactly.{string-exact}
 use Rattle.text_order.proofs.Ordered.{strict, before-decides}
 use Rattle.text_order.proofs.ByUnits.{texts-once, same-bytes}
-use Rattle.string_ids.specs.Strings.{placeOf, recordOf, recordAt, stringOf, before, stringsAt, is, lookedUp}
+use Rattle.string_ids.specs.Strings.{stringPlace, recordOf, recordAt, stringOf, before, stringsAt, is, lookedUp}
 use Rattle.string_ids.specs.Rules.{StringAt, Precedes, StringsRule, LookupRule}
 
-record-exact : (f : List ℕ) (h : Header) (n : ℕ) → Exact (recordAt f h n) (λ (p : ℕ). Allowed (h .start) (h .end) false (u32At (h .order) f (placeOf h n)) × (u32At (h .order) f (placeOf h n) ≡ p))
+record-exact : (f : List ℕ) (h : Header) (n : ℕ) → Exact (recordAt f h n) (λ (p : ℕ). Allowed (h .start) (h .end) false (u32At (h .order) f (stringPlace h n)) × (u32At (h .order) f (stringPlace h n) ≡ p))
 unfolding recordAt recordOf
-record-exact f h n = given-exact 8 (placeOf h n) (allowed-decides (h .start) (h .end) false (u32At (h .order) f (placeOf h n))) (answer-exact _)
+record-exact f h n = given-exact 8 (stringPlace h n) (allowed-decides (h .start) (h .end) false (u32At (h .order) f (stringPlace h n))) (answer-exact _)
 
 pub string-of-exact : (f : List ℕ) (h : Header) (n : ℕ) → Exact (stringOf f h n) (StringAt f h n)
 unfolding stringOf
@@ -40,7 +40,7 @@ string-of-same f h n = same (string-of-exact f h n)
 pub strings-exact : (f : List ℕ) (h : Header) → Exact (stringsAt f h) (StringsRule f h)
 unfolding stringsAt
 strings-exact f h =
-    exact-iff (in-turn-exact (StringAt f h) Precedes (stringOf f h) before 15 (placeOf h) (string-of-exact f h) (λ b a. before-decides (b .units) (a .units)) (h .strings .count))
+    exact-iff (in-turn-exact (StringAt f h) Precedes (stringOf f h) before 15 (stringPlace h) (string-of-exact f h) (λ b a. before-decides (b .units) (a .units)) (h .strings .count))
     (λ l p. record { each = p .0; order = p .1 })
     (λ l p. (p .each, p .order))
 

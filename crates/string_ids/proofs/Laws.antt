@@ -32,24 +32,24 @@ use Rattle.text.specs.declared.TextAnswer.{TextAnswer}
 use Rattle.text.specs.declared.TextAnswer.the-variants as T
 use Rattle.text.proofs.Laws.{Lies, text-lies}
 use Rattle.text_order.proofs.ByUnits.{lies-order}
-use Rattle.string_ids.specs.Strings.{placeOf, recordOf, recordAt, stringOf, stringExtent, before, lessBytes, stringsAt, stringsChecked, is, lookedUp}
+use Rattle.string_ids.specs.Strings.{stringPlace, recordOf, recordAt, stringOf, stringExtent, before, lessBytes, stringsAt, stringsChecked, is, lookedUp}
 use Rattle.string_ids.specs.Answers.{item-outcome, last-bytes, found-number, lookup-outcome}
-use Rattle.string_ids.specs.declared.ItemAnswer.{ItemAnswer}
+use Rattle.string_ids.specs.declared.ItemPlaceAnswer.{ItemPlaceAnswer}
 use Rattle.string_ids.specs.declared.Last.{Last}
 use Rattle.string_ids.specs.declared.Last.the-variants.{Start, After}
-use Rattle.string_ids.specs.declared.Found as F
-use Rattle.string_ids.specs.declared.Lookup.{Lookup}
+use Rattle.string_ids.specs.declared.FoundString as F
+use Rattle.string_ids.specs.declared.LookupAnswer.{LookupAnswer}
 
 -- ---- a record, and the text that it names
-pub record-by : (f : List ℕ) (h : Header) (n : ℕ) {place v : ℕ} {y : Outcome ℕ} → place ≡ placeOf h n → v ≡ u32At (h .order) f place → y ≡ recordOf h n v → y ≡ recordAt f h n
+pub record-by : (f : List ℕ) (h : Header) (n : ℕ) {place v : ℕ} {y : Outcome ℕ} → place ≡ stringPlace h n → v ≡ u32At (h .order) f place → y ≡ recordOf h n v → y ≡ recordAt f h n
 unfolding recordAt
 record-by f h n {place} {v} {y} p e q = subst (λ (x : ℕ). y ≡ recordOf h n x) (e ∙ ap (u32At (h .order) f) p) q
 
 -- the refusal at a place that a function answered, p
-pub record-fails : (h : Header) (n v : ℕ) {place : ℕ} → place ≡ placeOf h n → refused (record { number = 8; place = placeOf h n }) ≡ recordOf h n v → refused (record { number = 8; place = place }) ≡ recordOf h n v
+pub record-fails : (h : Header) (n v : ℕ) {place : ℕ} → place ≡ stringPlace h n → refused (record { number = 8; place = stringPlace h n }) ≡ recordOf h n v → refused (record { number = 8; place = place }) ≡ recordOf h n v
 record-fails h n v e q = ap (λ (x : ℕ). refused (record { number = 8; place = x })) e ∙ q
 
-pub on-item : {B : Type 0} {x c : ItemAnswer} {o : Outcome ℕ} {y : Outcome B} (k : ℕ → Outcome B) → item-outcome x ≡ o → x ≡ c → y ≡ (item-outcome c >>= k) → y ≡ (o >>= k)
+pub on-item : {B : Type 0} {x c : ItemPlaceAnswer} {o : Outcome ℕ} {y : Outcome B} (k : ℕ → Outcome B) → item-outcome x ≡ o → x ≡ c → y ≡ (item-outcome c >>= k) → y ≡ (o >>= k)
 on-item = said item-outcome
 
 -- the code's order of doing it: the extent of the text of the record's item
@@ -92,13 +92,13 @@ pub rises-after : (s : List ℕ) (last : Last) {p n : ℕ} (q m : ℕ) {x y : Li
 unfolding follows last-bytes
 rises-after s last q m e a b t w h = rw (e, ← a, ← b) (h ∙ ap isLess (sym w ∙ t))
 
-pub found-before : (x y : List ℕ) (k : ℕ) {found : F.Found} {j : ℕ} → found ≡ F.the-variants.Number j → some j ≡ or-this (found-number found) (isEqual (byKey x y)) k
+pub found-before : (x y : List ℕ) (k : ℕ) {found : F.FoundString} {j : ℕ} → found ≡ F.the-variants.Number j → some j ≡ or-this (found-number found) (isEqual (byKey x y)) k
 found-before x y k e = rw e
 
-pub found-now : (x y : List ℕ) (k : ℕ) {found : F.Found} {o c : Order} → found ≡ F.the-variants.Nothing → o ≡ byKey x y → o ≡ c → isEqual c ≡ true → some k ≡ or-this (found-number found) (isEqual (byKey x y)) k
+pub found-now : (x y : List ℕ) (k : ℕ) {found : F.FoundString} {o c : Order} → found ≡ F.the-variants.Absent → o ≡ byKey x y → o ≡ c → isEqual c ≡ true → some k ≡ or-this (found-number found) (isEqual (byKey x y)) k
 found-now x y k e t w q = rw (e, sym (ap isEqual (sym w ∙ t)) ∙ q)
 
-pub found-not : (x y : List ℕ) (k : ℕ) {found : F.Found} {o c : Order} → found ≡ F.the-variants.Nothing → o ≡ byKey x y → o ≡ c → isEqual c ≡ false → none ≡ or-this (found-number found) (isEqual (byKey x y)) k
+pub found-not : (x y : List ℕ) (k : ℕ) {found : F.FoundString} {o c : Order} → found ≡ F.the-variants.Absent → o ≡ byKey x y → o ≡ c → isEqual c ≡ false → none ≡ or-this (found-number found) (isEqual (byKey x y)) k
 found-not x y k e t w q = rw (e, sym (ap isEqual (sym w ∙ t)) ∙ q)
 
 -- ---- the loop of `look_up` at its head: the last text lies where the code says, and what was found is what the strings so far have
@@ -108,32 +108,32 @@ LastIs s none (After p n) = ⊥
 LastIs s (some t) Start = ⊥
 LastIs s (some t) (After p n) = (i : ℕ) × ((u : ℕ) × ((l : Lies s i p n u) × (l .text ≡ t)))
 
-record Kept (f : List ℕ) (h : Header) (text : List ℕ) (k : ℕ) (last : Last) (found : F.Found) (l : List Text) (t : Turn Text) : Type 0 where
+record Kept (f : List ℕ) (h : Header) (text : List ℕ) (k : ℕ) (last : Last) (found : F.FoundString) (l : List Text) (t : Turn Text) : Type 0 where
   number-is : t .number ≡ k
   length-is : length l ≡ k
   last-is : LastIs (section f h) (t .last) last
   found-is : found-number found ≡ position (is text) l
 
 abbrev stepOf : List ℕ → Header → Turn Text → Outcome (Found Text (Turn Text))
-stepOf f h = turn (stringOf f h) before 15 (placeOf h)
+stepOf f h = turn (stringOf f h) before 15 (stringPlace h)
 
-pub record Looking (f : List ℕ) (h : Header) (text s : List ℕ) (left k : ℕ) (last : Last) (found : F.Found) : Type 0 where
+pub record Looking (f : List ℕ) (h : Header) (text s : List ℕ) (left k : ℕ) (last : Last) (found : F.FoundString) : Type 0 where
   section-is : s ≡ section f h
   collecting : Collecting (stepOf f h) (h .strings .count) first-turn (Kept f h text k last found) left
   sum : k + left ≡ h .strings .count
   fits : Fits w32 (h .strings .count)
 
-pub looking-first : (f : List ℕ) (h : Header) (text : List ℕ) {s : List ℕ} → s ≡ section f h → Fits w32 (h .strings .count) → Looking f h text s (h .strings .count) 0 Start F.the-variants.Nothing
+pub looking-first : (f : List ℕ) (h : Header) (text : List ℕ) {s : List ℕ} → s ≡ section f h → Fits w32 (h .strings .count) → Looking f h text s (h .strings .count) 0 Start F.the-variants.Absent
 unfolding position
 looking-first f h text e fits = record {
   section-is = e;
-  collecting = collecting-first (stepOf f h) (h .strings .count) first-turn (Kept f h text 0 Start F.the-variants.Nothing) (record { number-is = refl; length-is = refl; last-is = tt; found-is = refl });
+  collecting = collecting-first (stepOf f h) (h .strings .count) first-turn (Kept f h text 0 Start F.the-variants.Absent) (record { number-is = refl; length-is = refl; last-is = tt; found-is = refl });
   sum = omega arith;
   fits = fits;
 }
 
 -- the number of the next string fits where the count does
-pub number-fits : {f : List ℕ} {h : Header} {text s : List ℕ} {left k : ℕ} {last : Last} {found : F.Found} → Looking f h text s left k last found → 0 < left → Fits w32 (k + 1)
+pub number-fits : {f : List ℕ} {h : Header} {text s : List ℕ} {left k : ℕ} {last : Last} {found : F.FoundString} → Looking f h text s left k last found → 0 < left → Fits w32 (k + 1)
 number-fits w l = let z = w .sum in let y = w .fits .fits in record { fits = omega arith }
 
 -- the order of a text against the last one is that of their bytes
@@ -148,13 +148,13 @@ same-order (some t) (After q n) w l =
 
 -- the step that string k is, before its order is judged
 stepped : (f : List ℕ) (h : Header) {k p m u : ℕ} (d : Told f h k p m u) (t : Turn Text) → t .number ≡ k
-    → stepOf f h t ≡ given (follows before (t .last) (d .lies .text)) 15 (placeOf h k) (answer (record { item = d .lies .text; next = record { number = k + 1; last = some (d .lies .text) } }))
+    → stepOf f h t ≡ given (follows before (t .last) (d .lies .text)) 15 (stringPlace h k) (answer (record { item = d .lies .text; next = record { number = k + 1; last = some (d .lies .text) } }))
 unfolding turn
 stepped f h {k} d t q =
     bind-answer _ (ap (stringOf f h) q ∙ d .read)
-    ∙ (λ i. given (follows before (t .last) (d .lies .text)) 15 (placeOf h (q i)) (answer (record { item = d .lies .text; next = record { number = q i + 1; last = some (d .lies .text) } })))
+    ∙ (λ i. given (follows before (t .last) (d .lies .text)) 15 (stringPlace h (q i)) (answer (record { item = d .lies .text; next = record { number = q i + 1; last = some (d .lies .text) } })))
 
-module _ {f : List ℕ} {h : Header} {text s : List ℕ} {left k : ℕ} {last : Last} {found : F.Found} (w : Looking f h text s left k last found) {x : TextAnswer}
+module _ {f : List ℕ} {h : Header} {text s : List ℕ} {left k : ℕ} {last : Last} {found : F.FoundString} (w : Looking f h text s left k last found) {x : TextAnswer}
     (l : 0 < left) (e : text-outcome x ≡ stringExtent f h k) where
   pub looking-stop : {r : Refusal} → x ≡ T.Refused r → refused r ≡ lookedUp f h text
   unfolding lookedUp stringsAt in-turn turn
@@ -170,20 +170,20 @@ module _ {f : List ℕ} {h : Header} {text s : List ℕ} {left k : ℕ} {last : 
         same-order (q .last) last (kept .last-is) (d .lies)
         ∙ ap (λ (y : List ℕ). follows lessBytes (last-bytes y last) (part y p m)) (sym (w .section-is)) ∙ sym asked
 
-    pub looking-fail : {place : ℕ} → b ≡ false → place ≡ placeOf h k → refused (record { number = 15; place = place }) ≡ lookedUp f h text
+    pub looking-fail : {place : ℕ} → b ≡ false → place ≡ stringPlace h k → refused (record { number = 15; place = place }) ≡ lookedUp f h text
     unfolding lookedUp stringsAt in-turn
     looking-fail false-is at =
         ap (λ (y : ℕ). refused (record { number = 15; place = y })) at
         ∙ sym (bind-refused _ (bind-refused _ (sym (collecting-stop (w .collecting) l λ a q kept. fails _ (ordered q a kept ∙ false-is) ∙ sym (stepped f h d q (kept .number-is))))))
 
-    pub looking-next : {g : F.Found} {y : List ℕ} → b ≡ true → y ≡ part s p m → found-number g ≡ or-this (found-number found) (isEqual (byKey y text)) k
+    pub looking-next : {g : F.FoundString} {y : List ℕ} → b ≡ true → y ≡ part s p m → found-number g ≡ or-this (found-number found) (isEqual (byKey y text)) k
         → Looking f h text s (left - 1) (k + 1) (After p m) g
     looking-next {g} {y} true-is part-is next = record {
       section-is = w .section-is;
       collecting = collecting-next (w .collecting) (Kept f h text (k + 1) (After p m) g) l λ a q kept. record {
         item = d .lies .text;
         next = record { number = k + 1; last = some (d .lies .text) };
-        found = passes 15 (placeOf h k) (ordered q a kept ∙ true-is) refl ∙ sym (stepped f h d q (kept .number-is));
+        found = passes 15 (stringPlace h k) (ordered q a kept ∙ true-is) refl ∙ sym (stepped f h d q (kept .number-is));
         keep = record {
           number-is = refl;
           length-is = length-append a (d .lies .text ∷ []) ∙ (let z = kept .length-is in omega arith);
@@ -204,7 +204,7 @@ module _ {f : List ℕ} {h : Header} {text s : List ℕ} {left k : ℕ} {last : 
             ∙ (λ i. or-this (kept .found-is i) (isEqual (byKey (sym bytes-are i) text)) (sym (kept .length-is) i))
             ∙ sym (position-more (is text) a (d .lies .text))
 
-pub looking-done : {f : List ℕ} {h : Header} {text s : List ℕ} {left k : ℕ} {last : Last} {found : F.Found} → Looking f h text s left k last found → left ≤ 0 → answer (found-number found) ≡ lookedUp f h text
+pub looking-done : {f : List ℕ} {h : Header} {text s : List ℕ} {left k : ℕ} {last : Last} {found : F.FoundString} → Looking f h text s left k last found → left ≤ 0 → answer (found-number found) ≡ lookedUp f h text
 unfolding lookedUp stringsAt in-turn
 looking-done w l =
     let d = collecting-done (w .collecting) l in
@@ -212,11 +212,11 @@ looking-done w l =
 
 -- ---- the loop of `check_strings`, which keeps no number: it goes as a lookup does, of which what was found is not looked at
 pub record Checking (f : List ℕ) (h : Header) (s : List ℕ) (left k : ℕ) (last : Last) : Type 0 where
-  found : F.Found
+  found : F.FoundString
   looking : Looking f h [] s left k last found
 
-as-found : Option ℕ → F.Found
-as-found none = F.the-variants.Nothing
+as-found : Option ℕ → F.FoundString
+as-found none = F.the-variants.Absent
 as-found (some j) = F.the-variants.Number j
 
 found-as : (o : Option ℕ) → found-number (as-found o) ≡ o
@@ -229,7 +229,7 @@ unfolding lookedUp
 unchecked f h e = sym (bind-refused accepted (part-refused (position (is [])) (stringsAt f h) (sym e)))
 
 pub checking-first : (f : List ℕ) (h : Header) {s : List ℕ} → s ≡ section f h → Fits w32 (h .strings .count) → Checking f h s (h .strings .count) 0 Start
-checking-first f h e fits = record { found = F.the-variants.Nothing; looking = looking-first f h [] e fits }
+checking-first f h e fits = record { found = F.the-variants.Absent; looking = looking-first f h [] e fits }
 
 pub checking-fits : {f : List ℕ} {h : Header} {s : List ℕ} {left k : ℕ} {last : Last} → Checking f h s left k last → 0 < left → Fits w32 (k + 1)
 checking-fits w l = number-fits (w .looking) l
@@ -239,7 +239,7 @@ module _ {f : List ℕ} {h : Header} {s : List ℕ} {left k : ℕ} {last : Last}
   checking-stop t = unchecked f h (looking-stop (w .looking) l e t)
 
   module _ {p m u : ℕ} (t : x ≡ T.Got p m u) {b : Bool} (asked : b ≡ follows lessBytes (last-bytes s last) (part s p m)) where
-    pub checking-fail : {place : ℕ} → b ≡ false → place ≡ placeOf h k → refused (record { number = 15; place = place }) ≡ stringsChecked f h
+    pub checking-fail : {place : ℕ} → b ≡ false → place ≡ stringPlace h k → refused (record { number = 15; place = place }) ≡ stringsChecked f h
     checking-fail false-is at = unchecked f h (looking-fail (w .looking) l e t asked false-is at)
 
     pub checking-next : b ≡ true → Checking f h s (left - 1) (k + 1) (After p m)
@@ -252,7 +252,7 @@ pub checking-done : {f : List ℕ} {h : Header} {s : List ℕ} {left k : ℕ} {l
 unfolding lookedUp
 checking-done {f} {h} w l = sym (bind-answer accepted (part-answer (position (is [])) (stringsAt f h) (sym (looking-done (w .looking) l)) .1 .0))
 
-pub on-lookup : {B : Type 0} {x c : Lookup} {o : Outcome (Option ℕ)} {y : Outcome B} (k : Option ℕ → Outcome B) → lookup-outcome x ≡ o → x ≡ c → y ≡ (lookup-outcome c >>= k) → y ≡ (o >>= k)
+pub on-lookup : {B : Type 0} {x c : LookupAnswer} {o : Outcome (Option ℕ)} {y : Outcome B} (k : Option ℕ → Outcome B) → lookup-outcome x ≡ o → x ≡ c → y ≡ (lookup-outcome c >>= k) → y ≡ (o >>= k)
 on-lookup = said lookup-outcome
 
 pub ruleset record-laws = (record-by, record-fails, string-by, extent-of, on-item, calls, tests, needs)

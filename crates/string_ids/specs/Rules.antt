@@ -13,12 +13,12 @@ use Rattle.frame.specs.Offsets.{Allowed}
 use Rattle.text.specs.Text.{Text}
 use Rattle.text.specs.Rules.{StringRule}
 use Rattle.text_order.specs.Order.{Before}
-use Rattle.string_ids.specs.Strings.{placeOf}
+use Rattle.string_ids.specs.Strings.{stringPlace}
 
 -- string n: the record names an item in the data section, and the text stands there
 pub record StringAt (f : List ℕ) (h : Header) (n : ℕ) (t : Text) : Type 0 where
   pub item : ℕ
-  pub offset : u32At (h .order) f (placeOf h n) ≡ item
+  pub offset : u32At (h .order) f (stringPlace h n) ≡ item
   pub allowed : Allowed (h .start) (h .end) false item
   pub text : StringRule (section f h) item t
 

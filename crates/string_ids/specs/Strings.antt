@@ -15,15 +15,15 @@ use Rattle.text.specs.Text.{Text, stringAt, Extent, extent}
 use Rattle.text_order.specs.Order.{compared, byKey, isLess, isEqual}
 
 -- where the record of string n is
-abbrev pub placeOf : Header → ℕ → ℕ
-placeOf h n = h .strings .offset + 4 * n
+abbrev pub stringPlace : Header → ℕ → ℕ
+stringPlace h n = h .strings .offset + 4 * n
 
 -- the record: where the item is, 8 at the record
 unfoldable pub recordOf : Header → ℕ → ℕ → Outcome ℕ
-recordOf h n offset = given (allowed (h .start) (h .end) false offset) 8 (placeOf h n) (answer offset)
+recordOf h n offset = given (allowed (h .start) (h .end) false offset) 8 (stringPlace h n) (answer offset)
 
 unfoldable pub recordAt : List ℕ → Header → ℕ → Outcome ℕ
-recordAt f h n = recordOf h n (u32At (h .order) f (placeOf h n))
+recordAt f h n = recordOf h n (u32At (h .order) f (stringPlace h n))
 
 -- string n: its record, then its item
 unfoldable pub stringOf : List ℕ → Header → ℕ → Outcome Text
@@ -38,7 +38,7 @@ before a b = isLess (compared (a .units) (b .units))
 
 -- all strings, each by its own rules, then by its order: "15, at the record"
 unfoldable pub stringsAt : List ℕ → Header → Outcome (List Text)
-stringsAt f h = in-turn (stringOf f h) before 15 (placeOf h) (h .strings .count)
+stringsAt f h = in-turn (stringOf f h) before 15 (stringPlace h) (h .strings .count)
 
 -- a stage of the code: nothing of them is kept but that they obey their rules and rise
 abbrev pub stringsChecked : List ℕ → Header → Outcome Unit

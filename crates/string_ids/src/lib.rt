@@ -1,12 +1,12 @@
 // The string table: its records, the texts that they name, and their order.
 use header::Header;
-use refusal::Checked;
+use refusal::CheckAnswer;
 use refusal::Refusal;
 use text::TextAnswer;
 use text_order::Order;
 ghost use mathlib.Core.Path.{_≡_};
 ghost use Rattle.text.specs.Answers.{text-outcome};
-ghost use Rattle.string_ids.specs.Strings.{placeOf, recordAt, stringExtent, lessBytes, stringsChecked, lookedUp};
+ghost use Rattle.string_ids.specs.Strings.{stringPlace, recordAt, stringExtent, lessBytes, stringsChecked, lookedUp};
 ghost use Rattle.refusal.specs.Rows.{follows};
 ghost use Rattle.refusal.specs.Answers.{checked-outcome};
 ghost use Rattle.refusal.specs.Seek.{or-this};
@@ -15,7 +15,7 @@ ghost use Rattle.text_order.specs.Order.{byKey, isEqual};
 ghost use Rattle.string_ids.specs.Answers.{item-outcome, last-bytes, lookup-outcome, found-number};
 
 // Where a string data item is.
-pub enum ItemAnswer {
+pub enum ItemPlaceAnswer {
     At(usize),
     Refused(Refusal),
 }
@@ -27,35 +27,35 @@ pub enum Last {
 }
 
 // A number, or none.
-pub enum Found {
+pub enum FoundString {
     Number(u32),
-    Nothing,
+    Absent,
 }
 
-pub enum Lookup {
-    Got(Found),
+pub enum LookupAnswer {
+    Got(FoundString),
     Refused(Refusal),
 }
 
 // Where the record of string n is.
 pub fn place_of(h: Header, n: u32) -> usize
-    ensures { λ r. ⌜ r ≡ placeOf h n ⌝ }
+    ensures { λ r. ⌜ r ≡ stringPlace h n ⌝ }
 {
     let strings = h.strings;
     strings.offset as usize + 4 * n as usize
 }
 
 // Where the item of string n is: 8 at the record.
-fn record_at(f: &[u8], h: Header, n: u32) -> ItemAnswer
+fn record_at(f: &[u8], h: Header, n: u32) -> ItemPlaceAnswer
     ensures { λ r. ⌜ item-outcome r ≡ recordAt (now (f .entry)) h n ⌝ }
 {
     let order = h.order;
     let place = place_of(h, n);
     let offset = word::u32_at(f, place, order) as usize;
     if frame::is_allowed(h.start, h.end, false, offset) {
-        return ItemAnswer::At(offset);
+        return ItemPlaceAnswer::At(offset);
     }
-    ItemAnswer::Refused(Refusal { number: 8, place })
+    ItemPlaceAnswer::Refused(Refusal { number: 8, place })
 }
 
 // String n: its record, then its item.
@@ -63,8 +63,8 @@ pub fn string_at(f: &[u8], h: Header, n: u32) -> TextAnswer
     ensures { λ r. ⌜ text-outcome r ≡ stringExtent (now (f .entry)) h n ⌝ }
 {
     match record_at(f, h, n) {
-        ItemAnswer::Refused(r) => TextAnswer::Refused(r),
-        ItemAnswer::At(item) => text::string_at(header::section_of(f, h), item),
+        ItemPlaceAnswer::Refused(r) => TextAnswer::Refused(r),
+        ItemPlaceAnswer::At(item) => text::string_at(header::section_of(f, h), item),
     }
 }
 
@@ -86,32 +86,32 @@ fn rises(s: &[u8], last: Last, start: usize, length: usize) -> bool
 }
 
 // The number that was found before, or else k where the bytes are the text.
-fn found_with(found: Found, bytes: &[u8], text: &[u8], k: u32) -> Found
+fn found_with(found: FoundString, bytes: &[u8], text: &[u8], k: u32) -> FoundString
     ensures { λ r. ⌜ found-number r ≡ or-this (found-number found) (isEqual (byKey (now (bytes .entry)) (now (text .entry)))) k ⌝ }
 {
     match found {
-        Found::Number(j) => Found::Number(j),
-        Found::Nothing => match text_order::compare(bytes, text) {
-            Order::Less => Found::Nothing,
-            Order::Equal => Found::Number(k),
-            Order::Greater => Found::Nothing,
+        FoundString::Number(j) => FoundString::Number(j),
+        FoundString::Absent => match text_order::compare(bytes, text) {
+            Order::Less => FoundString::Absent,
+            Order::Equal => FoundString::Number(k),
+            Order::Greater => FoundString::Absent,
         },
     }
 }
 
 // All strings in turn, each by its own rules and then by its order.
-pub fn check_strings(f: &[u8], h: Header) -> Checked
+pub fn check_strings(f: &[u8], h: Header) -> CheckAnswer
     ensures { λ r. ⌜ checked-outcome r ≡ stringsChecked (now (f .entry)) h ⌝ }
 {
     let s = header::section_of(f, h);
     let strings = h.strings;
     let mut last = Last::Start;
-    let mut k: u32 = 0;
-    let mut left = strings.count;
-    while 0 < left {
-        match string_at(f, h, k) {
+    let mut n: u32 = 0;
+    let mut more = strings.count;
+    while 0 < more {
+        match string_at(f, h, n) {
             TextAnswer::Refused(r) => {
-                return Checked::Refused(r);
+                return CheckAnswer::Refused(r);
             }
             TextAnswer::Got {
                 start,
@@ -121,33 +121,33 @@ pub fn check_strings(f: &[u8], h: Header) -> Checked
                 if rises(s, last, start, length) {
                     last = Last::After { start, length };
                 } else {
-                    return Checked::Refused(Refusal {
+                    return CheckAnswer::Refused(Refusal {
                         number: 15,
-                        place: place_of(h, k),
+                        place: place_of(h, n),
                     });
                 }
             }
         }
-        k += 1;
-        left -= 1;
+        n += 1;
+        more -= 1;
     }
-    Checked::Accepted
+    CheckAnswer::Accepted
 }
 
 // The same going over, with the number of the string that is the text: one pass.
-pub fn look_up(f: &[u8], h: Header, text: &[u8]) -> Lookup
+pub fn look_up(f: &[u8], h: Header, text: &[u8]) -> LookupAnswer
     ensures { λ r. ⌜ lookup-outcome r ≡ lookedUp (now (f .entry)) h (now (text .entry)) ⌝ }
 {
     let s = header::section_of(f, h);
     let strings = h.strings;
     let mut last = Last::Start;
-    let mut found = Found::Nothing;
+    let mut found = FoundString::Absent;
     let mut k: u32 = 0;
     let mut left = strings.count;
     while 0 < left {
         match string_at(f, h, k) {
             TextAnswer::Refused(r) => {
-                return Lookup::Refused(r);
+                return LookupAnswer::Refused(r);
             }
             TextAnswer::Got {
                 start,
@@ -158,7 +158,7 @@ pub fn look_up(f: &[u8], h: Header, text: &[u8]) -> Lookup
                     found = found_with(found, word::bytes_at(s, start, length), text, k);
                     last = Last::After { start, length };
                 } else {
-                    return Lookup::Refused(Refusal {
+                    return LookupAnswer::Refused(Refusal {
                         number: 15,
                         place: place_of(h, k),
                     });
@@ -168,5 +168,5 @@ pub fn look_up(f: &[u8], h: Header, text: &[u8]) -> Lookup
         k += 1;
         left -= 1;
     }
-    Lookup::Got(found)
+    LookupAnswer::Got(found)
 }

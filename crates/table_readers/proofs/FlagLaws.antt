@@ -14,10 +14,10 @@ use Rattle.class_ids.specs.declared.ClassAnswer.{ClassAnswer}
 use Rattle.class_ids.specs.declared.ClassAnswer.the-variants.{Got, Refused}
 use Rattle.class_ids.specs.Answers.{class-outcome}
 use Rattle.class_ids.proofs.Laws.{laws as class-laws}
-use Rattle.table_readers.specs.Tables.{classOf}
+use Rattle.table_readers.specs.Tables.{classNumber}
 use Rattle.table_readers.specs.Flags.{contentOf, classContent}
 
-module _ (f : List ℕ) (n : ℕ) (out : List ℕ) {x : ClassAnswer} (e : class-outcome x ≡ classOf f n) where
+module _ (f : List ℕ) (n : ℕ) (out : List ℕ) {x : ClassAnswer} (e : class-outcome x ≡ classNumber f n) where
   pub content-kept : {r : Refusal} → x ≡ Refused r → out ≡ classContent f n out
   unfolding classContent contentOf
   content-kept t = ap (λ (o : Outcome Class). contentOf o out) (sym (ap class-outcome t) ∙ e)

@@ -4,11 +4,11 @@ use Prim.Native.Nat.{ℕ}
 use mathlib.Core.Path.{_≡_, refl}
 use Rattle.refusal.specs.Outcome.{Outcome, answer, refused}
 use Rattle.refusal.proofs.Laws.{one-to-one}
-use Rattle.map_list.specs.declared.Entry.{Entry}
+use Rattle.map_list.specs.declared.MapEntry.{MapEntry}
 use Rattle.table_readers.specs.declared.Opened.{Opened}
 use Rattle.table_readers.specs.declared.OpenedAnswer as O
 use Rattle.table_readers.specs.declared.CountAnswer as C
-use Rattle.table_readers.specs.declared.EntryAnswer as E
+use Rattle.table_readers.specs.declared.MapEntryAnswer as E
 use Rattle.table_readers.specs.Answers.{count-outcome, entry-outcome, opened-outcome}
 
 count-back : Outcome ℕ → C.CountAnswer
@@ -23,16 +23,16 @@ count-told (C.the-variants.Refused r) = refl
 pub count-once : (x y : C.CountAnswer) → count-outcome x ≡ count-outcome y → x ≡ y
 count-once = one-to-one count-outcome count-back count-told
 
-entry-back : Outcome Entry → E.EntryAnswer
+entry-back : Outcome MapEntry → E.MapEntryAnswer
 entry-back (answer e) = E.the-variants.Got e
 entry-back (refused r) = E.the-variants.Refused r
 
-entry-told : (x : E.EntryAnswer) → entry-back (entry-outcome x) ≡ x
+entry-told : (x : E.MapEntryAnswer) → entry-back (entry-outcome x) ≡ x
 unfolding entry-back
 entry-told (E.the-variants.Got e) = refl
 entry-told (E.the-variants.Refused r) = refl
 
-pub entry-once : (x y : E.EntryAnswer) → entry-outcome x ≡ entry-outcome y → x ≡ y
+pub entry-once : (x y : E.MapEntryAnswer) → entry-outcome x ≡ entry-outcome y → x ≡ y
 entry-once = one-to-one entry-outcome entry-back entry-told
 
 opened-back : Outcome Opened → O.OpenedAnswer

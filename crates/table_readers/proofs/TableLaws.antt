@@ -12,9 +12,9 @@ use Rattle.header.specs.Header.{frame-of}
 use Rattle.header.proofs.Laws.{laws as header-laws}
 use Rattle.map_list.proofs.Laws.{laws as map-laws}
 use Rattle.ids.specs.declared.Proto.{Proto}
-use Rattle.ids.specs.declared.Member.{Member}
+use Rattle.ids.specs.declared.MemberId.{MemberId}
 use Rattle.ids.specs.declared.Handle.{Handle}
-use Rattle.ids.specs.Records.{typeAt, protoAt, memberAt, handleAt}
+use Rattle.ids.specs.Records.{typeAt, protoAt, memberIdAt, handleAt}
 use Rattle.class_ids.specs.declared.Class.{Class}
 use Rattle.class_ids.specs.Classes.{classAt}
 
@@ -25,8 +25,8 @@ module _ (f : List ℕ) (h : Header) (handles offset n : ℕ) {r : Frame} (e : r
   pub proto-framed : (end : ℕ) {y : Outcome Proto} → y ≡ protoAt f r end offset n → y ≡ protoAt f (frame-of h handles) end offset n
   proto-framed end q = q ∙ ap (λ (x : Frame). protoAt f x end offset n) e
 
-  pub member-framed : (kinds : ℕ) {y : Outcome Member} → y ≡ memberAt f r kinds offset n → y ≡ memberAt f (frame-of h handles) kinds offset n
-  member-framed kinds q = q ∙ ap (λ (x : Frame). memberAt f x kinds offset n) e
+  pub member-framed : (kinds : ℕ) {y : Outcome MemberId} → y ≡ memberIdAt f r kinds offset n → y ≡ memberIdAt f (frame-of h handles) kinds offset n
+  member-framed kinds q = q ∙ ap (λ (x : Frame). memberIdAt f x kinds offset n) e
 
   pub handle-framed : {y : Outcome Handle} → y ≡ handleAt f r offset n → y ≡ handleAt f (frame-of h handles) offset n
   handle-framed q = q ∙ ap (λ (x : Frame). handleAt f x offset n) e

@@ -5,11 +5,11 @@ use mathlib.Core.List.{List}
 use Rattle.refusal.specs.Outcome.{Outcome, answer, refused, _>>=_}
 use Rattle.access_flags.specs.Flags.{written, content}
 use Rattle.class_ids.specs.declared.Class.{Class}
-use Rattle.table_readers.specs.Tables.{classOf}
+use Rattle.table_readers.specs.Tables.{classNumber}
 
 unfoldable pub classFlags : List ℕ → ℕ → ℕ → Outcome ℕ
 classFlags f n room = do
-  c ← classOf f n
+  c ← classNumber f n
   written true (c .flags) room
 
 -- what the output holds afterwards: as it was where the answer is a refusal
@@ -18,4 +18,4 @@ contentOf (answer c) out = content true (c .flags) out
 contentOf (refused r) out = out
 
 unfoldable pub classContent : List ℕ → ℕ → List ℕ → List ℕ
-classContent f n out = contentOf (classOf f n) out
+classContent f n out = contentOf (classNumber f n) out

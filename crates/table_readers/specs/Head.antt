@@ -6,7 +6,7 @@ use Rattle.refusal.specs.Outcome.{Outcome, answer, refused, _>>=_, given}
 use Rattle.word.specs.Bytes.{stretch}
 use Rattle.header.specs.declared.Header.{Header}
 use Rattle.header.specs.Header.{headerAt}
-use Rattle.map_list.specs.declared.Entry.{Entry}
+use Rattle.map_list.specs.declared.MapEntry.{MapEntry}
 use Rattle.map_list.specs.Map.{keptAt, entryNumber}
 use Rattle.table_readers.specs.declared.Opened.{Opened}
 
@@ -25,12 +25,12 @@ mapCount f = do
   answer (m .count)
 
 -- "7: the caller asks for a number that is not there"
-unfoldable pub mapEntryIn : List ℕ → ℕ → Header → Outcome Entry
+unfoldable pub mapEntryIn : List ℕ → ℕ → Header → Outcome MapEntry
 mapEntryIn f k h = do
   m ← keptAt f h
   given (ltb k (m .count)) 7 0 (answer (entryNumber f h k))
 
-unfoldable pub mapEntry : List ℕ → ℕ → Outcome Entry
+unfoldable pub mapEntry : List ℕ → ℕ → Outcome MapEntry
 mapEntry f k = headerAt f >>= mapEntryIn f k
 
 unfoldable pub handleCount : List ℕ → Outcome ℕ

@@ -8,9 +8,9 @@ use Rattle.header.specs.Header.{headerAt, frame-of}
 use Rattle.map_list.specs.declared.MapList.{MapList}
 use Rattle.map_list.specs.Map.{keptAt}
 use Rattle.ids.specs.declared.Proto.{Proto}
-use Rattle.ids.specs.declared.Member.{Member}
+use Rattle.ids.specs.declared.MemberId.{MemberId}
 use Rattle.ids.specs.declared.Handle.{Handle}
-use Rattle.ids.specs.Records.{typeAt, protoAt, memberAt, handleAt}
+use Rattle.ids.specs.Records.{typeAt, protoAt, memberIdAt, handleAt}
 use Rattle.class_ids.specs.declared.Class.{Class}
 use Rattle.class_ids.specs.Classes.{classAt}
 
@@ -23,26 +23,26 @@ typeName f n = headerAt f >>= typeIn f n
 unfoldable pub protoIn : List ℕ → ℕ → Header → Outcome Proto
 protoIn f n h = given (ltb n (h .protos .count)) 7 0 (protoAt f (frame-of h 0) (h .end) (h .protos .offset) n)
 
-unfoldable pub protoOf : List ℕ → ℕ → Outcome Proto
-protoOf f n = headerAt f >>= protoIn f n
+unfoldable pub protoNumber : List ℕ → ℕ → Outcome Proto
+protoNumber f n = headerAt f >>= protoIn f n
 
-unfoldable pub fieldIn : List ℕ → ℕ → Header → Outcome Member
-fieldIn f n h = given (ltb n (h .fields .count)) 7 0 (memberAt f (frame-of h 0) (h .types .count) (h .fields .offset) n)
+unfoldable pub fieldIn : List ℕ → ℕ → Header → Outcome MemberId
+fieldIn f n h = given (ltb n (h .fields .count)) 7 0 (memberIdAt f (frame-of h 0) (h .types .count) (h .fields .offset) n)
 
-unfoldable pub fieldOf : List ℕ → ℕ → Outcome Member
-fieldOf f n = headerAt f >>= fieldIn f n
+unfoldable pub fieldNumber : List ℕ → ℕ → Outcome MemberId
+fieldNumber f n = headerAt f >>= fieldIn f n
 
-unfoldable pub methodIn : List ℕ → ℕ → Header → Outcome Member
-methodIn f n h = given (ltb n (h .methods .count)) 7 0 (memberAt f (frame-of h 0) (h .protos .count) (h .methods .offset) n)
+unfoldable pub methodIn : List ℕ → ℕ → Header → Outcome MemberId
+methodIn f n h = given (ltb n (h .methods .count)) 7 0 (memberIdAt f (frame-of h 0) (h .protos .count) (h .methods .offset) n)
 
-unfoldable pub methodOf : List ℕ → ℕ → Outcome Member
-methodOf f n = headerAt f >>= methodIn f n
+unfoldable pub methodNumber : List ℕ → ℕ → Outcome MemberId
+methodNumber f n = headerAt f >>= methodIn f n
 
 unfoldable pub classIn : List ℕ → ℕ → Header → Outcome Class
 classIn f n h = given (ltb n (h .classes .count)) 7 0 (classAt f (frame-of h 0) (h .end) (h .classes .offset) n)
 
-unfoldable pub classOf : List ℕ → ℕ → Outcome Class
-classOf f n = headerAt f >>= classIn f n
+unfoldable pub classNumber : List ℕ → ℕ → Outcome Class
+classNumber f n = headerAt f >>= classIn f n
 
 -- the table that the map names
 unfoldable pub handleUnder : List ℕ → ℕ → Header → MapList → Outcome Handle
@@ -51,5 +51,5 @@ handleUnder f n h m = given (ltb n (m .handles .count)) 7 0 (handleAt f (frame-o
 unfoldable pub handleIn : List ℕ → ℕ → Header → Outcome Handle
 handleIn f n h = keptAt f h >>= handleUnder f n h
 
-unfoldable pub handleOf : List ℕ → ℕ → Outcome Handle
-handleOf f n = headerAt f >>= handleIn f n
+unfoldable pub handleNumber : List ℕ → ℕ → Outcome Handle
+handleNumber f n = headerAt f >>= handleIn f n

@@ -42,26 +42,26 @@ pub fn map_count(f: &[u8]) -> CountAnswer
 }
 
 // Entry k of the map.
-pub fn map_entry(f: &[u8], k: u32) -> EntryAnswer
+pub fn map_entry(f: &[u8], k: u32) -> MapEntryAnswer
     ensures { λ r. ⌜ entry-outcome r ≡ mapEntry (now (f .entry)) k ⌝ }
 {
     match header::header_of(f) {
-        HeaderAnswer::Refused(r) => EntryAnswer::Refused(r),
+        HeaderAnswer::Refused(r) => MapEntryAnswer::Refused(r),
         HeaderAnswer::Got(h) => map_entry_in(f, h, k),
     }
 }
 
-fn map_entry_in(f: &[u8], h: Header, k: u32) -> EntryAnswer
+fn map_entry_in(f: &[u8], h: Header, k: u32) -> MapEntryAnswer
     ensures { λ r. ⌜ entry-outcome r ≡ mapEntryIn (now (f .entry)) k h ⌝ }
 {
     match map_list::map_of(f, h) {
-        MapAnswer::Refused(r) => EntryAnswer::Refused(r),
+        MapAnswer::Refused(r) => MapEntryAnswer::Refused(r),
         MapAnswer::Got(m) => {
             let count = m.count;
             if k < count {
-                return EntryAnswer::Got(map_list::entry_number(f, h, k));
+                return MapEntryAnswer::Got(map_list::entry_number(f, h, k));
             }
-            EntryAnswer::Refused(Refusal {
+            MapEntryAnswer::Refused(Refusal {
                 number: 7,
                 place: 0,
             })

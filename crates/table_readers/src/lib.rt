@@ -1,7 +1,7 @@
 // The readers of header, map, records, texts and type lists, each over a lent file: header (1 to 6), the map where it is read (8, 9, 16),
 // 7 for a number that is not there, the record, then each item on the way.
 use header::Header;
-use map_list::Entry;
+use map_list::MapEntry;
 use refusal::Refusal;
 
 mod flags;
@@ -37,8 +37,8 @@ pub enum CountAnswer {
     Refused(Refusal),
 }
 
-pub enum EntryAnswer {
-    Got(Entry),
+pub enum MapEntryAnswer {
+    Got(MapEntry),
     Refused(Refusal),
 }
 

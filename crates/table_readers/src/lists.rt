@@ -4,9 +4,9 @@ use header::Header;
 use header::HeaderAnswer;
 use ids::ProtoAnswer;
 use refusal::Refusal;
-use type_list::CountAnswer;
-use type_list::Judge;
 use type_list::TypeAnswer;
+use type_list::TypeCountAnswer;
+use type_list::TypeListJudge;
 ghost use mathlib.Core.Path.{_≡_};
 ghost use Rattle.type_list.specs.Answers.{count-outcome, type-outcome};
 ghost use Rattle.table_readers.specs.Lists.{listType, parametersIn, parameterCount, parameterIn, parameter, interfacesIn, interfaceCount, interfaceIn, interface};
@@ -20,7 +20,7 @@ fn list_type(f: &[u8], h: Header, at: u32, k: u32) -> TypeAnswer
     if 0 < at {
         return type_list::type_at(
             header::section_of(f, h),
-            Judge {
+            TypeListJudge {
                 order,
                 types: types.count,
                 at: at as usize,
@@ -35,20 +35,20 @@ fn list_type(f: &[u8], h: Header, at: u32, k: u32) -> TypeAnswer
 }
 
 // How many parameters proto n has.
-pub fn parameter_count(f: &[u8], n: u32) -> CountAnswer
+pub fn parameter_count(f: &[u8], n: u32) -> TypeCountAnswer
     ensures { λ r. ⌜ count-outcome r ≡ parameterCount (now (f .entry)) n ⌝ }
 {
     match header::header_of(f) {
-        HeaderAnswer::Refused(r) => CountAnswer::Refused(r),
+        HeaderAnswer::Refused(r) => TypeCountAnswer::Refused(r),
         HeaderAnswer::Got(h) => parameters_in(f, h, n),
     }
 }
 
-fn parameters_in(f: &[u8], h: Header, n: u32) -> CountAnswer
+fn parameters_in(f: &[u8], h: Header, n: u32) -> TypeCountAnswer
     ensures { λ r. ⌜ count-outcome r ≡ parametersIn (now (f .entry)) n h ⌝ }
 {
     match super::tables::proto_in(f, h, n) {
-        ProtoAnswer::Refused(r) => CountAnswer::Refused(r),
+        ProtoAnswer::Refused(r) => TypeCountAnswer::Refused(r),
         ProtoAnswer::Got(p) => type_list::list_count(f, h, p.parameters),
     }
 }
@@ -73,20 +73,20 @@ fn parameter_in(f: &[u8], h: Header, n: u32, k: u32) -> TypeAnswer
 }
 
 // How many interfaces class n has.
-pub fn interface_count(f: &[u8], n: u32) -> CountAnswer
+pub fn interface_count(f: &[u8], n: u32) -> TypeCountAnswer
     ensures { λ r. ⌜ count-outcome r ≡ interfaceCount (now (f .entry)) n ⌝ }
 {
     match header::header_of(f) {
-        HeaderAnswer::Refused(r) => CountAnswer::Refused(r),
+        HeaderAnswer::Refused(r) => TypeCountAnswer::Refused(r),
         HeaderAnswer::Got(h) => interfaces_in(f, h, n),
     }
 }
 
-fn interfaces_in(f: &[u8], h: Header, n: u32) -> CountAnswer
+fn interfaces_in(f: &[u8], h: Header, n: u32) -> TypeCountAnswer
     ensures { λ r. ⌜ count-outcome r ≡ interfacesIn (now (f .entry)) n h ⌝ }
 {
     match super::tables::class_in(f, h, n) {
-        ClassAnswer::Refused(r) => CountAnswer::Refused(r),
+        ClassAnswer::Refused(r) => TypeCountAnswer::Refused(r),
         ClassAnswer::Got(c) => type_list::list_count(f, h, c.interfaces),
     }
 }

@@ -2,7 +2,7 @@
 use header::Header;
 use header::HeaderAnswer;
 use refusal::Refusal;
-use string_ids::Lookup;
+use string_ids::LookupAnswer;
 use text::TextAnswer;
 ghost use mathlib.Core.Path.{_≡_};
 ghost use Rattle.text.specs.Answers.{text-outcome};
@@ -47,11 +47,11 @@ pub fn string_bytes(f: &[u8], n: u32) -> &[u8]
 }
 
 // The number of the string that has those bytes, or none.
-pub fn find_string(f: &[u8], text: &[u8]) -> Lookup
+pub fn find_string(f: &[u8], text: &[u8]) -> LookupAnswer
     ensures { λ r. ⌜ lookup-outcome r ≡ findString (now (f .entry)) (now (text .entry)) ⌝ }
 {
     match header::header_of(f) {
-        HeaderAnswer::Refused(r) => Lookup::Refused(r),
+        HeaderAnswer::Refused(r) => LookupAnswer::Refused(r),
         HeaderAnswer::Got(h) => string_ids::look_up(f, h, text),
     }
 }

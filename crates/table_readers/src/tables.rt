@@ -4,15 +4,15 @@ use header::Header;
 use header::HeaderAnswer;
 use ids::HandleAnswer;
 use ids::IndexAnswer;
-use ids::MemberAnswer;
+use ids::MemberIdAnswer;
 use ids::ProtoAnswer;
 use map_list::MapAnswer;
 use map_list::MapList;
 use refusal::Refusal;
 ghost use mathlib.Core.Path.{_≡_};
-ghost use Rattle.ids.specs.Answers.{index-outcome, proto-outcome, member-outcome, handle-outcome};
+ghost use Rattle.ids.specs.Answers.{index-outcome, proto-outcome, member-id-outcome, handle-outcome};
 ghost use Rattle.class_ids.specs.Answers.{class-outcome};
-ghost use Rattle.table_readers.specs.Tables.{typeIn, typeName, protoIn, protoOf, fieldIn, fieldOf, methodIn, methodOf, handleIn, handleUnder, handleOf, classIn, classOf};
+ghost use Rattle.table_readers.specs.Tables.{typeIn, typeName, protoIn, protoNumber, fieldIn, fieldNumber, methodIn, methodNumber, handleIn, handleUnder, handleNumber, classIn, classNumber};
 
 // The string of type n.
 pub fn type_name(f: &[u8], n: u32) -> IndexAnswer
@@ -39,7 +39,7 @@ fn type_in(f: &[u8], h: Header, n: u32) -> IndexAnswer
 
 // Proto n.
 pub fn proto(f: &[u8], n: u32) -> ProtoAnswer
-    ensures { λ r. ⌜ proto-outcome r ≡ protoOf (now (f .entry)) n ⌝ }
+    ensures { λ r. ⌜ proto-outcome r ≡ protoNumber (now (f .entry)) n ⌝ }
 {
     match header::header_of(f) {
         HeaderAnswer::Refused(r) => ProtoAnswer::Refused(r),
@@ -61,48 +61,48 @@ pub fn proto_in(f: &[u8], h: Header, n: u32) -> ProtoAnswer
 }
 
 // Field n.
-pub fn field(f: &[u8], n: u32) -> MemberAnswer
-    ensures { λ r. ⌜ member-outcome r ≡ fieldOf (now (f .entry)) n ⌝ }
+pub fn field(f: &[u8], n: u32) -> MemberIdAnswer
+    ensures { λ r. ⌜ member-id-outcome r ≡ fieldNumber (now (f .entry)) n ⌝ }
 {
     match header::header_of(f) {
-        HeaderAnswer::Refused(r) => MemberAnswer::Refused(r),
+        HeaderAnswer::Refused(r) => MemberIdAnswer::Refused(r),
         HeaderAnswer::Got(h) => field_in(f, h, n),
     }
 }
 
-fn field_in(f: &[u8], h: Header, n: u32) -> MemberAnswer
-    ensures { λ r. ⌜ member-outcome r ≡ fieldIn (now (f .entry)) n h ⌝ }
+fn field_in(f: &[u8], h: Header, n: u32) -> MemberIdAnswer
+    ensures { λ r. ⌜ member-id-outcome r ≡ fieldIn (now (f .entry)) n h ⌝ }
 {
     let t = h.fields;
     let types = h.types;
     if n < t.count {
         return ids::member_at(f, header::frame_of(h, 0), types.count, t.offset, n);
     }
-    MemberAnswer::Refused(Refusal {
+    MemberIdAnswer::Refused(Refusal {
         number: 7,
         place: 0,
     })
 }
 
 // Method n.
-pub fn method(f: &[u8], n: u32) -> MemberAnswer
-    ensures { λ r. ⌜ member-outcome r ≡ methodOf (now (f .entry)) n ⌝ }
+pub fn method(f: &[u8], n: u32) -> MemberIdAnswer
+    ensures { λ r. ⌜ member-id-outcome r ≡ methodNumber (now (f .entry)) n ⌝ }
 {
     match header::header_of(f) {
-        HeaderAnswer::Refused(r) => MemberAnswer::Refused(r),
+        HeaderAnswer::Refused(r) => MemberIdAnswer::Refused(r),
         HeaderAnswer::Got(h) => method_in(f, h, n),
     }
 }
 
-fn method_in(f: &[u8], h: Header, n: u32) -> MemberAnswer
-    ensures { λ r. ⌜ member-outcome r ≡ methodIn (now (f .entry)) n h ⌝ }
+fn method_in(f: &[u8], h: Header, n: u32) -> MemberIdAnswer
+    ensures { λ r. ⌜ member-id-outcome r ≡ methodIn (now (f .entry)) n h ⌝ }
 {
     let t = h.methods;
     let protos = h.protos;
     if n < t.count {
         return ids::member_at(f, header::frame_of(h, 0), protos.count, t.offset, n);
     }
-    MemberAnswer::Refused(Refusal {
+    MemberIdAnswer::Refused(Refusal {
         number: 7,
         place: 0,
     })
@@ -110,7 +110,7 @@ fn method_in(f: &[u8], h: Header, n: u32) -> MemberAnswer
 
 // Class n.
 pub fn class(f: &[u8], n: u32) -> ClassAnswer
-    ensures { λ r. ⌜ class-outcome r ≡ classOf (now (f .entry)) n ⌝ }
+    ensures { λ r. ⌜ class-outcome r ≡ classNumber (now (f .entry)) n ⌝ }
 {
     match header::header_of(f) {
         HeaderAnswer::Refused(r) => ClassAnswer::Refused(r),
@@ -133,7 +133,7 @@ pub fn class_in(f: &[u8], h: Header, n: u32) -> ClassAnswer
 
 // Method handle n, in the table that the map names.
 pub fn handle(f: &[u8], n: u32) -> HandleAnswer
-    ensures { λ r. ⌜ handle-outcome r ≡ handleOf (now (f .entry)) n ⌝ }
+    ensures { λ r. ⌜ handle-outcome r ≡ handleNumber (now (f .entry)) n ⌝ }
 {
     match header::header_of(f) {
         HeaderAnswer::Refused(r) => HandleAnswer::Refused(r),

@@ -28,10 +28,10 @@ use Rattle.leb128.proofs.Laws.{on-leb, uleb-span}
 use Rattle.text.specs.Text.{wideAt, formAt, unitsAt, Text, stringAt, Extent, extent, extentAt, counted, countAt}
 use Rattle.text.specs.Singles.{Singles, FewSingles}
 use Rattle.text.specs.Answers.{wide-outcome, count-outcome, text-outcome}
-use Rattle.text.specs.declared.Wide.{Wide}
-use Rattle.text.specs.declared.Wide.the-variants as W
-use Rattle.text.specs.declared.Count.{Count}
-use Rattle.text.specs.declared.Count.the-variants as C
+use Rattle.text.specs.declared.WideAnswer.{WideAnswer}
+use Rattle.text.specs.declared.WideAnswer.the-variants as W
+use Rattle.text.specs.declared.UnitCountAnswer.{UnitCountAnswer}
+use Rattle.text.specs.declared.UnitCountAnswer.the-variants as C
 use Rattle.text.specs.declared.TextAnswer.{TextAnswer}
 use Rattle.text.specs.declared.TextAnswer.the-variants as T
 use Rattle.text.proofs.Shapes.{shape, shape-some}
@@ -94,13 +94,13 @@ module _ {s : List ℕ} {item start p count : ℕ} (h : Head s item start p coun
   unfolding formAt
   wide i q e = passes 9 item (lt-ltb p (length s) i) (leaves _ (le-ltb (getD s p 0) 0x80 q) e)
 
-  pub head-wide : {x : Wide} {u n : ℕ} → p < length s → 0x80 ≤ getD s p 0 → wide-outcome x ≡ wideAt s item p → x ≡ W.Got u n → Head s item start n (count + 1)
+  pub head-wide : {x : WideAnswer} {u n : ℕ} → p < length s → 0x80 ≤ getD s p 0 → wide-outcome x ≡ wideAt s item p → x ≡ W.Got u n → Head s item start n (count + 1)
   head-wide i q e t = next i (wide i q (sym (ap wide-outcome t) ∙ e))
 
-  pub head-less : {x : Wide} {u n : ℕ} → p < length s → 0x80 ≤ getD s p 0 → wide-outcome x ≡ wideAt s item p → x ≡ W.Got u n → length s - n < length s - p
+  pub head-less : {x : WideAnswer} {u n : ℕ} → p < length s → 0x80 ≤ getD s p 0 → wide-outcome x ≡ wideAt s item p → x ≡ W.Got u n → length s - n < length s - p
   head-less i q e t = let m = form-moves s item p (wide i q (sym (ap wide-outcome t) ∙ e)) in omega arith
 
-  pub head-stop : {x : Wide} {r : Refusal} → p < length s → 0x80 ≤ getD s p 0 → wide-outcome x ≡ wideAt s item p → x ≡ W.Refused r → refused r ≡ countAt s item start
+  pub head-stop : {x : WideAnswer} {r : Refusal} → p < length s → 0x80 ≤ getD s p 0 → wide-outcome x ≡ wideAt s item p → x ≡ W.Refused r → refused r ≡ countAt s item start
   head-stop i q e t = stop i (wide i q (sym (ap wide-outcome t) ∙ e))
 
   pub head-done : p < length s → getD s p 0 < 0x80 → getD s p 0 ≤ 0 → answer (record { item = count; next = p }) ≡ countAt s item start
@@ -183,11 +183,11 @@ module _ (s : List ℕ) (item : ℕ) where
   by-stages e =
       e ∙ sym (bind-assoc (ulebAt s item item) (λ (n : Found ℕ ℕ). unitsAt s item (n .next) >>= text-with n) extent ∙ (λ i. ulebAt s item item >>= λ (n : Found ℕ ℕ). units-with n i))
 
-pub on-count : {B : Type 0} {x c : Count} {o : Outcome (Found ℕ ℕ)} {y : Outcome B} (k : Found ℕ ℕ → Outcome B)
+pub on-count : {B : Type 0} {x c : UnitCountAnswer} {o : Outcome (Found ℕ ℕ)} {y : Outcome B} (k : Found ℕ ℕ → Outcome B)
     → count-outcome x ≡ o → x ≡ c → y ≡ (count-outcome c >>= k) → y ≡ (o >>= k)
 on-count = said count-outcome
 
-pub count-after : (s : List ℕ) (item p : ℕ) {x : Count} {k z : ℕ} → count-outcome x ≡ countAt s item p → x ≡ C.Got k z → p ≤ z
+pub count-after : (s : List ℕ) (item p : ℕ) {x : UnitCountAnswer} {k z : ℕ} → count-outcome x ≡ countAt s item p → x ≡ C.Got k z → p ≤ z
 unfolding countAt
 count-after s item p {x} {k} {z} e t =
     let rule = bind-exact _ (λ (u : Found (List ℕ) ℕ) (c : Found ℕ ℕ). record { item = length (u .item); next = u .next } ≡ c) (units-exact s item p) (λ u. answer-exact _) in

@@ -1,6 +1,6 @@
 // Texts in modified UTF-8: a string data item read at a place.
 // `s` ends where the data section ends, `item` is the place of the string data item.
-use leb128::Leb;
+use leb128::LebAnswer;
 use refusal::Refusal;
 ghost use mathlib.Core.Path.{_≡_};
 ghost use Prim.Native.Nat.{_+_, _<_, _≤_};
@@ -10,13 +10,13 @@ ghost use Rattle.text.specs.Singles.{FewSingles};
 ghost use Rattle.text.specs.Answers.{wide-outcome, count-outcome, text-outcome};
 
 // A unit whose form has two or three bytes, and the place after it.
-pub enum Wide {
+pub enum WideAnswer {
     Got { unit: u32, next: usize },
     Refused(Refusal),
 }
 
 // How many units a text has, and the place of its zero byte.
-pub enum Count {
+pub enum UnitCountAnswer {
     Got { units: usize, zero: usize },
     Refused(Refusal),
 }
@@ -32,12 +32,12 @@ pub enum TextAnswer {
 }
 
 // A form of two bytes: 9 where the second is not there, 14 where it does not follow or one byte is enough.
-fn two_at(s: &[u8], item: usize, p: usize) -> Wide
+fn two_at(s: &[u8], item: usize, p: usize) -> WideAnswer
     requires { ⌜ p < length (now s) ⌝ }
     ensures { λ r. ⌜ wide-outcome r ≡ twoAt (now (s .entry)) item p ⌝ }
 {
     if s.len() - p < 2 {
-        return Wide::Refused(Refusal {
+        return WideAnswer::Refused(Refusal {
             number: 9,
             place: item,
         });
@@ -45,32 +45,32 @@ fn two_at(s: &[u8], item: usize, p: usize) -> Wide
     let a = s[p] as u32;
     let b = s[p + 1] as u32;
     if b / 64 != 2 {
-        return Wide::Refused(Refusal {
+        return WideAnswer::Refused(Refusal {
             number: 14,
             place: item,
         });
     }
     let unit = a % 32 * 64 + b % 64;
     if 0x80 <= unit {
-        return Wide::Got { unit, next: p + 2 };
+        return WideAnswer::Got { unit, next: p + 2 };
     }
     // U+0000 is c0 80
     if unit == 0 {
-        return Wide::Got { unit, next: p + 2 };
+        return WideAnswer::Got { unit, next: p + 2 };
     }
-    Wide::Refused(Refusal {
+    WideAnswer::Refused(Refusal {
         number: 14,
         place: item,
     })
 }
 
 // A form of three bytes: 9 where one is not there, 14 where one does not follow or two bytes are enough.
-fn three_at(s: &[u8], item: usize, p: usize) -> Wide
+fn three_at(s: &[u8], item: usize, p: usize) -> WideAnswer
     requires { ⌜ p < length (now s) ⌝ }
     ensures { λ r. ⌜ wide-outcome r ≡ threeAt (now (s .entry)) item p ⌝ }
 {
     if s.len() - p < 3 {
-        return Wide::Refused(Refusal {
+        return WideAnswer::Refused(Refusal {
             number: 9,
             place: item,
         });
@@ -78,30 +78,30 @@ fn three_at(s: &[u8], item: usize, p: usize) -> Wide
     let a = s[p] as u32;
     let b = s[p + 1] as u32;
     if b / 64 != 2 {
-        return Wide::Refused(Refusal {
+        return WideAnswer::Refused(Refusal {
             number: 14,
             place: item,
         });
     }
     let c = s[p + 2] as u32;
     if c / 64 != 2 {
-        return Wide::Refused(Refusal {
+        return WideAnswer::Refused(Refusal {
             number: 14,
             place: item,
         });
     }
     let unit = a % 16 * 4096 + b % 64 * 64 + c % 64;
     if unit < 0x800 {
-        return Wide::Refused(Refusal {
+        return WideAnswer::Refused(Refusal {
             number: 14,
             place: item,
         });
     }
-    Wide::Got { unit, next: p + 3 }
+    WideAnswer::Got { unit, next: p + 3 }
 }
 
 // A form of two or three bytes, by its first.
-fn wide_at(s: &[u8], item: usize, p: usize) -> Wide
+fn wide_at(s: &[u8], item: usize, p: usize) -> WideAnswer
     requires { ⌜ p < length (now s) ⌝ }
     ensures { λ r. ⌜ wide-outcome r ≡ wideAt (now (s .entry)) item p ⌝ }
 {
@@ -111,7 +111,7 @@ fn wide_at(s: &[u8], item: usize, p: usize) -> Wide
     if s[p] / 16 == 14 {
         return three_at(s, item, p);
     }
-    Wide::Refused(Refusal {
+    WideAnswer::Refused(Refusal {
         number: 14,
         place: item,
     })
@@ -137,7 +137,7 @@ fn singles_at(s: &[u8], p: usize) -> usize
 }
 
 // The units from `start` up to the zero byte, counted. Most forms have one byte: they are gone over by eight, and behind them a zero byte ends the text at once.
-fn count_at(s: &[u8], item: usize, start: usize) -> Count
+fn count_at(s: &[u8], item: usize, start: usize) -> UnitCountAnswer
     ensures { λ r. ⌜ count-outcome r ≡ countAt (now (s .entry)) item start ⌝ }
 {
     let mut p = start;
@@ -158,7 +158,7 @@ fn count_at(s: &[u8], item: usize, start: usize) -> Count
                     continue;
                 }
             } else {
-                return Count::Got {
+                return UnitCountAnswer::Got {
                     units: units + n,
                     zero: q,
                 };
@@ -170,19 +170,19 @@ fn count_at(s: &[u8], item: usize, start: usize) -> Count
                 units += 1;
                 continue;
             }
-            return Count::Got { units, zero: p };
+            return UnitCountAnswer::Got { units, zero: p };
         }
         match wide_at(s, item, p) {
-            Wide::Refused(r) => {
-                return Count::Refused(r);
+            WideAnswer::Refused(r) => {
+                return UnitCountAnswer::Refused(r);
             }
-            Wide::Got { unit: _, next } => {
+            WideAnswer::Got { unit: _, next } => {
                 p = next;
                 units += 1;
             }
         }
     }
-    Count::Refused(Refusal {
+    UnitCountAnswer::Refused(Refusal {
         number: 9,
         place: item,
     })
@@ -193,10 +193,10 @@ pub fn string_at(s: &[u8], item: usize) -> TextAnswer
     ensures { λ r. ⌜ text-outcome r ≡ extentAt (now (s .entry)) item ⌝ }
 {
     match leb128::uleb(s, item, item) {
-        Leb::Refused(r) => TextAnswer::Refused(r),
-        Leb::Got { value, next } => match count_at(s, item, next) {
-            Count::Refused(r) => TextAnswer::Refused(r),
-            Count::Got { units, zero } => {
+        LebAnswer::Refused(r) => TextAnswer::Refused(r),
+        LebAnswer::Got { value, next } => match count_at(s, item, next) {
+            UnitCountAnswer::Refused(r) => TextAnswer::Refused(r),
+            UnitCountAnswer::Got { units, zero } => {
                 let length = zero - next;
                 if units != value as usize {
                     return TextAnswer::Refused(Refusal {

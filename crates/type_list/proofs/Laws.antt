@@ -19,31 +19,31 @@ use Rattle.refusal.proofs.Kept.{made-kept, present-kept, absent-kept}
 use Rattle.refusal.proofs.Loops.{Numbers, numbers-first, numbers-next, numbers-stop, numbers-done}
 use Rattle.word.specs.Words.{u32At}
 use Rattle.word.proofs.Laws.{u16-past}
-use Rattle.type_list.specs.declared.Judge.{Judge}
-use Rattle.refusal.specs.declared.Checked.{Checked}
+use Rattle.type_list.specs.declared.TypeListJudge.{TypeListJudge}
+use Rattle.refusal.specs.declared.CheckAnswer.{CheckAnswer}
 use Rattle.refusal.specs.Answers.{checked-outcome}
 use Rattle.header.specs.declared.Header.{Header}
 use Rattle.header.specs.Header.{section}
-use Rattle.type_list.specs.declared.CountAnswer.{CountAnswer}
+use Rattle.type_list.specs.declared.TypeCountAnswer.{TypeCountAnswer}
 use Rattle.type_list.specs.declared.TypeAnswer.{TypeAnswer}
 use Rattle.type_list.specs.TypeList.{entryNumber, entryAt, listOf, listAt, counted, countAt, allAt}
 use Rattle.type_list.specs.Answers.{count-outcome, type-outcome}
 use Rattle.type_list.specs.Below.{list-judge, typesBelow, listCount}
 use Rattle.type_list.proofs.Exactly.{counted as counts}
 
-pub entry-past : (s : List ℕ) (j : Judge) (k : ℕ) → length s ≤ j .at → 0 ≡ entryNumber s j k
+pub entry-past : (s : List ℕ) (j : TypeListJudge) (k : ℕ) → length s ≤ j .at → 0 ≡ entryNumber s j k
 entry-past s j k h = u16-past (j .order) s (j .at + 4 + 2 * k) (omega arith)
 
 -- ---- the loop of `all` at its head: entry k is next
-pub record Going (s : List ℕ) (j : Judge) (count left k : ℕ) : Type 0 where
+pub record Going (s : List ℕ) (j : TypeListJudge) (count left k : ℕ) : Type 0 where
   numbers : Numbers (entryAt s j) count left k
   sum : k + left ≡ count
   fits : Fits w32 count
 
-pub going-first : (s : List ℕ) (j : Judge) (count : ℕ) → Fits w32 count → Going s j count count 0
+pub going-first : (s : List ℕ) (j : TypeListJudge) (count : ℕ) → Fits w32 count → Going s j count count 0
 going-first s j count fits = record { numbers = numbers-first (entryAt s j) count; sum = omega arith; fits = fits }
 
-module _ {s : List ℕ} {j : Judge} {count left k : ℕ} (h : Going s j count left k) where
+module _ {s : List ℕ} {j : TypeListJudge} {count left k : ℕ} (h : Going s j count left k) where
   pub going-fits : 0 < left → Fits w32 (k + 1)
   going-fits l = let z = h .sum in let y = h .fits .fits in record { fits = omega arith }
 
@@ -64,7 +64,7 @@ module _ {s : List ℕ} {j : Judge} {count left k : ℕ} (h : Going s j count le
   going-done l = numbers-done (h .numbers) l
 
 -- ---- the stages of the list
-module _ (s : List ℕ) (j : Judge) where
+module _ (s : List ℕ) (j : TypeListJudge) where
   pub list-low : length s < j .at → refused (record { number = 9; place = j .at }) ≡ countAt s j
   unfolding countAt listAt
   list-low h = sym (bind-refused counted (sym (fails _ (lt-leb (j .at + 4) (length s) (omega arith)))))
@@ -93,17 +93,17 @@ module _ (s : List ℕ) (j : Judge) where
           go (answer l) e = ap answer (counts s j count l e)
           go (refused x) e = refl
 
-      pub list-by : {x c : Checked} {y : Outcome ℕ} → checked-outcome x ≡ allAt s j count → x ≡ c → y ≡ (checked-outcome c >>= λ (u : Unit). answer count) → y ≡ countAt s j
+      pub list-by : {x c : CheckAnswer} {y : Outcome ℕ} → checked-outcome x ≡ allAt s j count → x ≡ c → y ≡ (checked-outcome c >>= λ (u : Unit). answer count) → y ≡ countAt s j
       list-by e m g = said checked-outcome _ e m g ∙ sym entries
 
-pub on-count : {B : Type 0} {x c : CountAnswer} {o : Outcome ℕ} {y : Outcome B} (k : ℕ → Outcome B) → count-outcome x ≡ o → x ≡ c → y ≡ (count-outcome c >>= k) → y ≡ (o >>= k)
+pub on-count : {B : Type 0} {x c : TypeCountAnswer} {o : Outcome ℕ} {y : Outcome B} (k : ℕ → Outcome B) → count-outcome x ≡ o → x ≡ c → y ≡ (count-outcome c >>= k) → y ≡ (o >>= k)
 on-count = said count-outcome
 
 pub on-type : {B : Type 0} {x c : TypeAnswer} {o : Outcome ℕ} {y : Outcome B} (k : ℕ → Outcome B) → type-outcome x ≡ o → x ≡ c → y ≡ (type-outcome c >>= k) → y ≡ (o >>= k)
 on-type = said type-outcome
 
 -- a list that was read in the file up to the data section's end, s
-module _ (f : List ℕ) (h : Header) (j : Judge) {s : List ℕ} {y : Outcome ℕ} where
+module _ (f : List ℕ) (h : Header) (j : TypeListJudge) {s : List ℕ} {y : Outcome ℕ} where
   pub count-in : s ≡ section f h → y ≡ countAt s j → y ≡ countAt (section f h) j
   count-in e q = q ∙ ap (λ (x : List ℕ). countAt x j) e
 

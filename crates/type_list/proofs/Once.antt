@@ -4,20 +4,20 @@ use Prim.Native.Nat.{ℕ}
 use mathlib.Core.Path.{_≡_, refl}
 use Rattle.refusal.specs.Outcome.{Outcome, answer, refused}
 use Rattle.refusal.proofs.Laws.{one-to-one}
-use Rattle.type_list.specs.declared.CountAnswer as C
+use Rattle.type_list.specs.declared.TypeCountAnswer as C
 use Rattle.type_list.specs.declared.TypeAnswer as T
 use Rattle.type_list.specs.Answers.{count-outcome, type-outcome}
 
-count-back : Outcome ℕ → C.CountAnswer
+count-back : Outcome ℕ → C.TypeCountAnswer
 count-back (answer a) = C.the-variants.Got a
 count-back (refused r) = C.the-variants.Refused r
 
-count-told : (x : C.CountAnswer) → count-back (count-outcome x) ≡ x
+count-told : (x : C.TypeCountAnswer) → count-back (count-outcome x) ≡ x
 unfolding count-back
 count-told (C.the-variants.Got a) = refl
 count-told (C.the-variants.Refused r) = refl
 
-pub count-once : (x y : C.CountAnswer) → count-outcome x ≡ count-outcome y → x ≡ y
+pub count-once : (x y : C.TypeCountAnswer) → count-outcome x ≡ count-outcome y → x ≡ y
 count-once = one-to-one count-outcome count-back count-told
 
 type-back : Outcome ℕ → T.TypeAnswer

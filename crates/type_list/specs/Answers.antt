@@ -1,10 +1,10 @@
 -- What the answers of the code say.
 use Prim.Native.Nat.{ℕ}
 use Rattle.refusal.specs.Outcome.{Outcome, answer, refused}
-use Rattle.type_list.specs.declared.CountAnswer as C
+use Rattle.type_list.specs.declared.TypeCountAnswer as C
 use Rattle.type_list.specs.declared.TypeAnswer as T
 
-abbrev pub count-outcome : C.CountAnswer → Outcome ℕ
+abbrev pub count-outcome : C.TypeCountAnswer → Outcome ℕ
 count-outcome (C.the-variants.Got n) = answer n
 count-outcome (C.the-variants.Refused r) = refused r
 

@@ -7,10 +7,10 @@ use lib.Dec.{ltb}
 use Rattle.refusal.specs.Outcome.{Outcome, answer, _>>=_, present, accepted}
 use Rattle.header.specs.declared.Header.{Header}
 use Rattle.header.specs.Header.{section}
-use Rattle.type_list.specs.declared.Judge.{Judge}
+use Rattle.type_list.specs.declared.TypeListJudge.{TypeListJudge}
 use Rattle.type_list.specs.TypeList.{listAt, countAt}
 
-abbrev pub list-judge : Header → ℕ → Judge
+abbrev pub list-judge : Header → ℕ → TypeListJudge
 list-judge h at = record { order = h .order; types = h .types .count; at = at }
 
 -- none where the list is absent

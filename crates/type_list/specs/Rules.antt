@@ -8,20 +8,20 @@ use Rattle.refusal.specs.Exact.{Each, Present}
 use Rattle.word.specs.Words.{u32At}
 use Rattle.header.specs.declared.Header.{Header}
 use Rattle.header.specs.Header.{section}
-use Rattle.type_list.specs.declared.Judge.{Judge}
+use Rattle.type_list.specs.declared.TypeListJudge.{TypeListJudge}
 use Rattle.type_list.specs.TypeList.{entryNumber}
 use Rattle.type_list.specs.Below.{list-judge}
 
-pub record Entry (s : List ℕ) (j : Judge) (k t : ℕ) : Type 0 where
+pub record TypeEntryRule (s : List ℕ) (j : TypeListJudge) (k t : ℕ) : Type 0 where
   pub stands : entryNumber s j k ≡ t
   pub range : t < j .types
 
 -- the size, room for all entries, and for each k below the size entry k
-pub record ListRule (s : List ℕ) (j : Judge) (l : List ℕ) : Type 0 where
+pub record TypeListRule (s : List ℕ) (j : TypeListJudge) (l : List ℕ) : Type 0 where
   pub size : u32At (j .order) s (j .at) ≡ length l
   pub room : j .at + 4 + 2 * length l ≤ length s
-  pub entries : Each (Entry s j) (length l) l
+  pub entries : Each (TypeEntryRule s j) (length l) l
 
 -- the list that an offset leads to, none exactly where the offset is 0
 abbrev pub TypesBelowRule : List ℕ → Header → ℕ → Option (List ℕ) → Type 0
-TypesBelowRule f h at = Present (ListRule (section f h) (list-judge h at)) at
+TypesBelowRule f h at = Present (TypeListRule (section f h) (list-judge h at)) at

@@ -14,13 +14,13 @@ use Rattle.refusal.proofs.Exact.{answers-equal, never}
 use Rattle.refusal.proofs.Rows.{past-answer, past-refused}
 use Rattle.leb128.specs.Leb.{ulebAt}
 use Rattle.leb128.specs.Answers.{leb-outcome}
-use Rattle.leb128.specs.declared.Leb.{Leb}
-use Rattle.leb128.specs.declared.Leb.the-variants as L
+use Rattle.leb128.specs.declared.LebAnswer.{LebAnswer}
+use Rattle.leb128.specs.declared.LebAnswer.the-variants as L
 use Rattle.leb128.proofs.Exactly.{uleb-exact}
 use Rattle.leb128.proofs.Laws.{on-leb}
 use Rattle.value_heads.specs.declared.Walk.{Walk}
-use Rattle.encoded_value.specs.declared.Step.{Step}
-use Rattle.encoded_value.specs.declared.Step.the-variants as S
+use Rattle.encoded_value.specs.declared.StepAnswer.{StepAnswer}
+use Rattle.encoded_value.specs.declared.StepAnswer.the-variants as S
 use Rattle.encoded_value.specs.Tree.{Tree, Named, Annotation}
 use Rattle.value_heads.specs.Readings.{indexAt}
 use Rattle.encoded_value.specs.Readings.{startAt, namedWith, valueAt, arrayAt, annotationAt, pastArray, pastAnnotation, pastValue, pastNamed}
@@ -38,10 +38,10 @@ use Rattle.value_bodies.specs.Bodies.{ShownElement, arrayCount, arrayVal
 use Rattle.value_bodies.proofs.Picks.{pick-there, pick-none, row-length, reached}
 
 -- what a call for a LEB128 number found
-got : {x : Leb} {o : Outcome (Found ℕ ℕ)} {v n : ℕ} → leb-outcome x ≡ o → x ≡ L.Got v n → o ≡ answer (record { item = v; next = n })
+got : {x : LebAnswer} {o : Outcome (Found ℕ ℕ)} {v n : ℕ} → leb-outcome x ≡ o → x ≡ L.Got v n → o ≡ answer (record { item = v; next = n })
 got e t = sym (sym (ap leb-outcome t) ∙ e)
 
-not-got : {x : Leb} {o : Outcome (Found ℕ ℕ)} {r : Refusal} {a : Found ℕ ℕ} → leb-outcome x ≡ o → x ≡ L.Refused r → o ≡ answer a → ⊥
+not-got : {x : LebAnswer} {o : Outcome (Found ℕ ℕ)} {r : Refusal} {a : Found ℕ ℕ} → leb-outcome x ≡ o → x ≡ L.Refused r → o ≡ answer a → ⊥
 not-got e t h = never (sym (ap leb-outcome t) ∙ e ∙ h)
 
 -- ---- arrays
@@ -53,7 +53,7 @@ module _ (s : List ℕ) (w : Walk) (p : ℕ) where
   array-size : {r : Found (List Tree) ℕ} (e : arrayAt s w deepest p ≡ answer r) → ulebAt s (w .item) p ≡ answer (array-rule e .size)
   array-size e = uleb-exact s (w .item) p .complete (array-rule e .size) (array-rule e .uleb)
 
-  module _ {x : Step} (e : step-outcome x ≡ pastArray s w deepest p) where
+  module _ {x : StepAnswer} (e : step-outcome x ≡ pastArray s w deepest p) where
     unread : {B : Type 0} {r : Refusal} (k : Found (List Tree) ℕ → Outcome B) → x ≡ S.Refused r → refused r ≡ (arrayAt s w deepest p >>= k)
     unread k t = sym (bind-refused k (sym (past-refused (arrayAt s w deepest p) (sym (ap step-outcome t) ∙ e))))
 
@@ -72,7 +72,7 @@ module _ (s : List ℕ) (w : Walk) (p : ℕ) where
       whole : arrayAt s w deepest p ≡ answer (all .0)
       whole = sym (all .1 .0)
 
-      module _ {y : Leb} (f : leb-outcome y ≡ ulebAt s (w .item) p) where
+      module _ {y : LebAnswer} (f : leb-outcome y ≡ ulebAt s (w .item) p) where
         pub count-no-size : {r : Refusal} → y ≡ L.Refused r → refused r ≡ arrayCount s w p
         count-no-size u = absurd (not-got f u (array-size whole))
 
@@ -132,7 +132,7 @@ module _ (s : List ℕ) (w : Walk) (p : ℕ) where
     size-behind : {t m : ℕ} → indexAt s (w .item) (w .types) p ≡ answer (record { item = t; next = m }) → ulebAt s (w .item) m ≡ answer (annotation-rule e .size)
     size-behind g = subst (λ (c : Found ℕ ℕ). ulebAt s (w .item) (c .next) ≡ answer (annotation-rule e .size)) (type-is g) size-there
 
-  module _ {x : Step} (e : step-outcome x ≡ pastAnnotation s w deepest p) where
+  module _ {x : StepAnswer} (e : step-outcome x ≡ pastAnnotation s w deepest p) where
     unnoted : {B : Type 0} {r : Refusal} (k : Found Annotation ℕ → Outcome B) → x ≡ S.Refused r → refused r ≡ (annotationAt s w deepest p >>= k)
     unnoted k t = sym (bind-refused k (sym (past-refused (annotationAt s w deepest p) (sym (ap step-outcome t) ∙ e))))
 
@@ -152,11 +152,11 @@ module _ (s : List ℕ) (w : Walk) (p : ℕ) where
       there-all = sym (noted .1 .0)
 
       -- the type, then the size
-      module _ {y : Leb} (f : leb-outcome y ≡ indexAt s (w .item) (w .types) p) where
+      module _ {y : LebAnswer} (f : leb-outcome y ≡ indexAt s (w .item) (w .types) p) where
         pub head-no-type : {r : Refusal} → y ≡ L.Refused r → refused r ≡ annotationNoted s w p
         head-no-type u = absurd (not-got f u (type-there there-all))
 
-        module _ {v m : ℕ} (u : y ≡ L.Got v m) {z : Leb} (g : leb-outcome z ≡ ulebAt s (w .item) m) where
+        module _ {v m : ℕ} (u : y ≡ L.Got v m) {z : LebAnswer} (g : leb-outcome z ≡ ulebAt s (w .item) m) where
           pub head-no-size : {r : Refusal} → z ≡ L.Refused r → refused r ≡ annotationNoted s w p
           head-no-size d = absurd (not-got g d (size-behind there-all (got f u)))
 
@@ -169,7 +169,7 @@ module _ (s : List ℕ) (w : Walk) (p : ℕ) where
               sym (bind-answer _ there-all ∙ (λ i. answer (record { type-index = kind i; count = count i })))
 
       -- both at once
-      module _ {y : Leb} (f : leb-outcome y ≡ startAt s w p) where
+      module _ {y : LebAnswer} (f : leb-outcome y ≡ startAt s w p) where
         pub element-no-start : (k : ℕ) {r : Refusal} → y ≡ L.Refused r → refused r ≡ annotationElement s w p k
         element-no-start k u = absurd (not-got f u (start-there there-all))
 
@@ -195,14 +195,14 @@ pub ruleset array-laws = (count-unread, count-no-size, count-got, value-unread, 
 pub ruleset annotation-laws = (head-unread, head-no-type, head-no-size, head-got, element-unread, element-no-start, element-none, element-kth, needs)
 
 -- ---- one turn of the going over values or named values
-module _ {whole : Outcome ℕ} {step : ℕ → Outcome ℕ} {more p : ℕ} (h : Loop whole step more p) (l : 0 < more) {x : Step} (e : step-outcome x ≡ step p) where
+module _ {whole : Outcome ℕ} {step : ℕ → Outcome ℕ} {more p : ℕ} (h : Loop whole step more p) (l : 0 < more) {x : StepAnswer} (e : step-outcome x ≡ step p) where
   pub turn-next : {q : ℕ} → x ≡ S.Next q → Loop whole step (more - 1) q
   turn-next t = walk-next h l (sym (ap step-outcome t) ∙ e)
 
   pub turn-stop : {r : Refusal} → x ≡ S.Refused r → refused r ≡ whole
   turn-stop t = walk-stop h l (sym (ap step-outcome t) ∙ e)
 
-module _ (s : List ℕ) (w : Walk) (left : ℕ) {whole : Outcome ℕ} {more p : ℕ} (h : Loop whole (pastNamed s w left) more p) (l : 0 < more) {x : Leb} (e : leb-outcome x ≡ indexAt s (w .item) (w .strings) p) where
+module _ (s : List ℕ) (w : Walk) (left : ℕ) {whole : Outcome ℕ} {more p : ℕ} (h : Loop whole (pastNamed s w left) more p) (l : 0 < more) {x : LebAnswer} (e : leb-outcome x ≡ indexAt s (w .item) (w .strings) p) where
   pub name-stop : {r : Refusal} → x ≡ L.Refused r → refused r ≡ whole
   name-stop t = walk-stop h l (sym (named-is s w left p ∙ bind-refused _ (sym (sym (ap leb-outcome t) ∙ e))))
 
@@ -210,10 +210,10 @@ module _ (s : List ℕ) (w : Walk) (left : ℕ) {whole : Outcome ℕ} {more p : 
     named : pastNamed s w left p ≡ pastValue s w left q
     named = named-is s w left p ∙ bind-answer _ (sym (sym (ap leb-outcome t) ∙ e))
 
-    pub named-next : {y : Step} {u : ℕ} → step-outcome y ≡ pastValue s w left q → y ≡ S.Next u → Loop whole (pastNamed s w left) (more - 1) u
+    pub named-next : {y : StepAnswer} {u : ℕ} → step-outcome y ≡ pastValue s w left q → y ≡ S.Next u → Loop whole (pastNamed s w left) (more - 1) u
     named-next f v = walk-next h l (sym (ap step-outcome v) ∙ f ∙ sym named)
 
-    pub named-stop : {y : Step} {r : Refusal} → step-outcome y ≡ pastValue s w left q → y ≡ S.Refused r → refused r ≡ whole
+    pub named-stop : {y : StepAnswer} {r : Refusal} → step-outcome y ≡ pastValue s w left q → y ≡ S.Refused r → refused r ≡ whole
     named-stop f v = walk-stop h l (sym (ap step-outcome v) ∙ f ∙ sym named)
 
 pub ruleset past-laws = (walk-start, walk-done, turn-next, turn-stop, name-stop, named-next, named-stop, needs)

@@ -15,39 +15,39 @@ use Rattle.leb128.proofs.Exactly.{uleb-exact}
 use Rattle.value_heads.specs.declared.Walk.{Walk}
 use Rattle.value_heads.specs.Kinds.{arguments, allowed-head, is-index, count-of, in-range}
 use Rattle.value_heads.specs.Numbers.{little}
-use Rattle.value_heads.specs.Readings.{headAt, numberAt, indexAt}
-use Rattle.value_heads.specs.Rules.{Head, Number, Index}
+use Rattle.value_heads.specs.Readings.{headByteAt, numberAt, indexAt}
+use Rattle.value_heads.specs.Rules.{HeadByteRule, NumberRule, IndexRule}
 
 -- ---- the head byte
 pub known-decides : (h : ℕ) → Decides (allowed-head h) (h / 32 < getD arguments (h % 32) 0)
 unfolding allowed-head
 known-decides h = below (h / 32) (getD arguments (h % 32) 0)
 
-pub head-exact : (s : List ℕ) (item p : ℕ) → Exact (headAt s item p) (Head s p)
-unfolding headAt
+pub head-exact : (s : List ℕ) (item p : ℕ) → Exact (headByteAt s item p) (HeadByteRule s p)
+unfolding headByteAt
 head-exact s item p =
     exact-iff (given-exact 9 item (below p (length s)) (given-exact 12 item (known-decides (getD s p 0)) (answer-exact (getD s p 0))))
     (λ h k. record { room = k .0; byte = k .1 .1; known = rw (k .1 .1) at (k .1 .0) })
     (λ h k. (k .room, (rw (← k .byte) at (k .known), k .byte)))
 
 -- ---- the bytes and the index of a value that is no body
-pub number-exact : (s : List ℕ) (item p n : ℕ) → Exact (numberAt s item p n) (Number s p n)
+pub number-exact : (s : List ℕ) (item p n : ℕ) → Exact (numberAt s item p n) (NumberRule s p n)
 unfolding numberAt
 number-exact s item p n =
     exact-iff (given-exact 9 item (at-most (p + n) (length s)) (answer-exact (record { item = little (stretch s p n); next = p + n })))
-    (λ r h. subst (Number s p n) (h .1) (found (h .0)))
+    (λ r h. subst (NumberRule s p n) (h .1) (found (h .0)))
     (λ r h. let e = h .stands .ends in let i = h .stands .inside in let z = h .size in
     (omega arith, λ i. record { item = worth h i; next = ends h i }))
   where
-    found : p + n ≤ length s → Number s p n (record { item = little (stretch s p n); next = p + n })
+    found : p + n ≤ length s → NumberRule s p n (record { item = little (stretch s p n); next = p + n })
     found l =
         let z = length-stretch s p n in
         record { bs = stretch s p n; stands = record { bytes-there = ap (stretch s p) z; ends = ap (λ (k : ℕ). p + k) z; inside = l }; size = z; value = refl }
 
-    worth : {r : Found ℕ ℕ} (h : Number s p n r) → little (stretch s p n) ≡ r .item
+    worth : {r : Found ℕ ℕ} (h : NumberRule s p n r) → little (stretch s p n) ≡ r .item
     worth h = ap (λ (k : ℕ). little (stretch s p k)) (sym (h .size)) ∙ ap little (h .stands .bytes-there) ∙ h .value
 
-    ends : {r : Found ℕ ℕ} (h : Number s p n r) → p + n ≡ r .next
+    ends : {r : Found ℕ ℕ} (h : NumberRule s p n r) → p + n ≡ r .next
     ends h = let e = h .stands .ends in let z = h .size in omega arith
 
 index-decides : (code : ℕ) → Decides (is-index code) ((0x15 ≤ code) × (code < 0x1c))
@@ -66,9 +66,9 @@ pub range-decides : (w : Walk) (code x : ℕ) → Decides (in-range w code x) ((
 unfolding in-range
 range-decides w code x = where-asked (index-decides code) (below x (count-of w code))
 
-pub index-exact : (s : List ℕ) (item count p : ℕ) → Exact (indexAt s item count p) (Index s count p)
+pub index-exact : (s : List ℕ) (item count p : ℕ) → Exact (indexAt s item count p) (IndexRule s count p)
 unfolding indexAt
 index-exact s item count p =
     exact-iff (bind-exact _ _ (uleb-exact s item p) (λ n. given-exact 11 item (below (n .item) count) (answer-exact n)))
-    (λ r h. subst (Index s count p) (h .1 .1 .1) (record { uleb = h .1 .0; range = h .1 .1 .0 }))
+    (λ r h. subst (IndexRule s count p) (h .1 .1 .1) (record { uleb = h .1 .0; range = h .1 .1 .0 }))
     (λ r h. (r, (h .uleb, (h .range, refl))))

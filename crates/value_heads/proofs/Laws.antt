@@ -18,15 +18,15 @@ use Rattle.refusal.proofs.Laws.{said, tests, calls}
 use Rattle.word.specs.Bytes.{stretch}
 use Rattle.leb128.proofs.Laws.{on-leb}
 use Rattle.value_heads.specs.declared.Walk.{Walk}
-use Rattle.value_heads.specs.declared.HeadByte.{HeadByte}
-use Rattle.value_heads.specs.declared.HeadByte.the-variants as H
-use Rattle.value_heads.specs.declared.Number.{Number}
-use Rattle.value_heads.specs.declared.Number.the-variants as N
+use Rattle.value_heads.specs.declared.HeadByteAnswer.{HeadByteAnswer}
+use Rattle.value_heads.specs.declared.HeadByteAnswer.the-variants as H
+use Rattle.value_heads.specs.declared.NumberAnswer.{NumberAnswer}
+use Rattle.value_heads.specs.declared.NumberAnswer.the-variants as N
 use Rattle.value_heads.specs.Kinds.{bytes-of, is-index, count-of, in-range}
 use Rattle.value_heads.specs.Numbers.{little}
-use Rattle.value_heads.specs.Readings.{headAt, numberAt}
-use Rattle.value_heads.specs.Rules.{Head}
-use Rattle.value_heads.specs.Answers.{head-outcome, number-outcome, Small}
+use Rattle.value_heads.specs.Readings.{headByteAt, numberAt}
+use Rattle.value_heads.specs.Rules.{HeadByteRule}
+use Rattle.value_heads.specs.Answers.{head-byte-outcome, number-outcome, Small}
 use Rattle.value_heads.proofs.Numbers.{size-some, size-none, size-small}
 use Rattle.word.proofs.Laws.{room-there, room-fits}
 use Rattle.value_heads.proofs.Exactly.{head-exact}
@@ -51,9 +51,9 @@ module _ (w : Walk) (code x : ℕ) {i : Bool} (e : i ≡ is-index code) where
   range-other t = rw (sym e ∙ t)
 
 -- ---- the head byte
-module _ (s : List ℕ) (item p : ℕ) {x : HeadByte} {h : ℕ} (e : head-outcome x ≡ headAt s item p) (t : x ≡ H.Got h) where
-  pub head-there : Head s p h
-  head-there = head-exact s item p .sound h (sym (sym (ap head-outcome t) ∙ e))
+module _ (s : List ℕ) (item p : ℕ) {x : HeadByteAnswer} {h : ℕ} (e : head-byte-outcome x ≡ headByteAt s item p) (t : x ≡ H.Got h) where
+  pub head-there : HeadByteRule s p h
+  head-there = head-exact s item p .sound h (sym (sym (ap head-byte-outcome t) ∙ e))
 
   pub after-head : Fits w64 (length s) → Fits w64 (p + 1)
   after-head f = let r = head-there .room in omega arith
@@ -79,11 +79,11 @@ module _ {h : ℕ} where
   pub small-refused : {r : Refusal} → Small h (N.Refused r)
   small-refused = record { small = λ t. absurd (let z : _≡_ {A = ℕ} 0 1 = cc in omega arith) }
 
-  pub small-again : {x : Number} {v n : ℕ} → Small h x → x ≡ N.Got v n → Small h (N.Got v n)
+  pub small-again : {x : NumberAnswer} {v n : ℕ} → Small h x → x ≡ N.Got v n → Small h (N.Got v n)
   small-again s e = rw e at s
 
 -- ---- a call's answer, by the arm that was taken
-pub on-number : {B : Type 0} {x c : Number} {o : Outcome (Found ℕ ℕ)} {y : Outcome B} (k : Found ℕ ℕ → Outcome B)
+pub on-number : {B : Type 0} {x c : NumberAnswer} {o : Outcome (Found ℕ ℕ)} {y : Outcome B} (k : Found ℕ ℕ → Outcome B)
     → number-outcome x ≡ o → x ≡ c → y ≡ (number-outcome c >>= k) → y ≡ (o >>= k)
 on-number = said number-outcome
 

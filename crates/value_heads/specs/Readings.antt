@@ -12,8 +12,8 @@ use Rattle.value_heads.specs.Kinds.{allowed-head, bytes-of, in-range}
 use Rattle.value_heads.specs.Numbers.{little}
 
 -- the head byte of a value: 9 where it is missing, 12 where it is not allowed
-unfoldable pub headAt : List ℕ → ℕ → ℕ → Outcome ℕ
-headAt s item p = given (ltb p (length s)) 9 item (given (allowed-head (getD s p 0)) 12 item (answer (getD s p 0)))
+unfoldable pub headByteAt : List ℕ → ℕ → ℕ → Outcome ℕ
+headByteAt s item p = given (ltb p (length s)) 9 item (given (allowed-head (getD s p 0)) 12 item (answer (getD s p 0)))
 
 -- the number of n bytes
 unfoldable pub numberAt : List ℕ → ℕ → ℕ → ℕ → Outcome (Found ℕ ℕ)

@@ -10,18 +10,18 @@ use Rattle.value_heads.specs.Kinds.{arguments}
 use Rattle.value_heads.specs.Numbers.{little}
 
 -- an allowed head byte
-pub record Head (s : List ℕ) (p h : ℕ) : Type 0 where
+pub record HeadByteRule (s : List ℕ) (p h : ℕ) : Type 0 where
   pub room : p < length s
   pub byte : getD s p 0 ≡ h
   pub known : h / 32 < getD arguments (h % 32) 0
 
 -- n bytes and their number
-pub record Number (s : List ℕ) (p n : ℕ) (r : Found ℕ ℕ) : Type 0 where
+pub record NumberRule (s : List ℕ) (p n : ℕ) (r : Found ℕ ℕ) : Type 0 where
   pub bs : List ℕ
   pub stands : Stands s p bs (r .next)
   pub size : length bs ≡ n
   pub value : little bs ≡ r .item
 
-pub record Index (s : List ℕ) (count p : ℕ) (r : Found ℕ ℕ) : Type 0 where
+pub record IndexRule (s : List ℕ) (count p : ℕ) (r : Found ℕ ℕ) : Type 0 where
   pub uleb : Uleb s p r
   pub range : r .item < count

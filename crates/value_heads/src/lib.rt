@@ -1,7 +1,7 @@
 // The parts of a value that hold no other value: its head byte, its bytes as a number, and its index.
 // `s` is the file up to the data section's end, so that a position past its length is 9.
 use frame::Frame;
-use leb128::Leb;
+use leb128::LebAnswer;
 use refusal::Refusal;
 ghost use mathlib.Core.Path.{_≡_};
 ghost use Prim.Native.Nat.{_+_, _*_, _^_, _≤_, _<_};
@@ -9,8 +9,8 @@ ghost use lib.ListN.{length};
 ghost use Rattle.word.specs.Bytes.{stretch};
 ghost use Rattle.value_heads.specs.Kinds.{allowed-head, bytes-of, is-index, walkOf, count-of, in-range};
 ghost use Rattle.value_heads.specs.Numbers.{little};
-ghost use Rattle.value_heads.specs.Readings.{headAt, numberAt, checkedAt, indexAt};
-ghost use Rattle.value_heads.specs.Answers.{head-outcome, number-outcome, Small};
+ghost use Rattle.value_heads.specs.Readings.{headByteAt, numberAt, checkedAt, indexAt};
+ghost use Rattle.value_heads.specs.Answers.{head-byte-outcome, number-outcome, Small};
 ghost use Rattle.leb128.specs.Answers.{leb-outcome};
 
 // How many arguments each code allows, from 0 on.
@@ -60,13 +60,13 @@ pub struct Walk {
     pub handles: u32,
 }
 
-pub enum HeadByte {
+pub enum HeadByteAnswer {
     Got(u8),
     Refused(Refusal),
 }
 
 // The number of a value's bytes, low first.
-pub enum Number {
+pub enum NumberAnswer {
     Got { value: u64, next: usize },
     Refused(Refusal),
 }
@@ -133,20 +133,20 @@ pub fn limit_of(w: Walk, code: u8) -> u32
 }
 
 // A value's head byte: 9 where it is missing, 12 where it is not allowed.
-pub fn head_at(s: &[u8], item: usize, at: usize) -> HeadByte
-    ensures { λ r. ⌜ head-outcome r ≡ headAt (now (s .entry)) item at ⌝ }
+pub fn head_at(s: &[u8], item: usize, at: usize) -> HeadByteAnswer
+    ensures { λ r. ⌜ head-byte-outcome r ≡ headByteAt (now (s .entry)) item at ⌝ }
 {
     if s.len() <= at {
-        return HeadByte::Refused(Refusal {
+        return HeadByteAnswer::Refused(Refusal {
             number: 9,
             place: item,
         });
     }
     let head = s[at];
     if is_allowed_head(head) {
-        return HeadByte::Got(head);
+        return HeadByteAnswer::Got(head);
     }
-    HeadByte::Refused(Refusal {
+    HeadByteAnswer::Refused(Refusal {
         number: 12,
         place: item,
     })
@@ -167,17 +167,17 @@ fn joined(s: &[u8], at: usize, n: usize) -> u64
 }
 
 // The number of the bytes that follow a head byte.
-pub fn number_at(s: &[u8], item: usize, at: usize, head: u8) -> Number
+pub fn number_at(s: &[u8], item: usize, at: usize, head: u8) -> NumberAnswer
     ensures { λ r. ⌜ (number-outcome r ≡ numberAt (now (s .entry)) item at (bytes-of head)) × Small head r ⌝ }
 {
     let n = size_of(head);
     if word::has_room(s.len(), at, n) {
-        return Number::Got {
+        return NumberAnswer::Got {
             value: joined(s, at, n),
             next: at + n,
         };
     }
-    Number::Refused(Refusal {
+    NumberAnswer::Refused(Refusal {
         number: 9,
         place: item,
     })
@@ -194,16 +194,16 @@ pub fn is_in_range(w: Walk, code: u8, number: u64) -> bool
 }
 
 // The number of a value that is no body, behind its head byte: its bytes, then its index.
-pub fn checked_number(s: &[u8], w: Walk, at: usize, head: u8) -> Number
+pub fn checked_number(s: &[u8], w: Walk, at: usize, head: u8) -> NumberAnswer
     ensures { λ r. ⌜ (number-outcome r ≡ checkedAt (now (s .entry)) w head at) × Small head r ⌝ }
 {
     match number_at(s, w.item, at, head) {
-        Number::Refused(r) => Number::Refused(r),
-        Number::Got { value, next } => {
+        NumberAnswer::Refused(r) => NumberAnswer::Refused(r),
+        NumberAnswer::Got { value, next } => {
             if is_in_range(w, head % 32, value) {
-                return Number::Got { value, next };
+                return NumberAnswer::Got { value, next };
             }
-            Number::Refused(Refusal {
+            NumberAnswer::Refused(Refusal {
                 number: 11,
                 place: w.item,
             })
@@ -212,16 +212,16 @@ pub fn checked_number(s: &[u8], w: Walk, at: usize, head: u8) -> Number
 }
 
 // A LEB128 number that is an index below a count.
-pub fn index_at(s: &[u8], item: usize, count: u32, at: usize) -> Leb
+pub fn index_at(s: &[u8], item: usize, count: u32, at: usize) -> LebAnswer
     ensures { λ r. ⌜ leb-outcome r ≡ indexAt (now (s .entry)) item count at ⌝ }
 {
     match leb128::uleb(s, at, item) {
-        Leb::Refused(r) => Leb::Refused(r),
-        Leb::Got { value, next } => {
+        LebAnswer::Refused(r) => LebAnswer::Refused(r),
+        LebAnswer::Got { value, next } => {
             if value < count {
-                return Leb::Got { value, next };
+                return LebAnswer::Got { value, next };
             }
-            Leb::Refused(Refusal {
+            LebAnswer::Refused(Refusal {
                 number: 11,
                 place: item,
             })

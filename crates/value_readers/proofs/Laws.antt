@@ -17,25 +17,25 @@ use Rattle.value_heads.specs.Kinds.{walkOf}
 use Rattle.encoded_value.specs.Depth.{deepest}
 use Rattle.encoded_value.specs.Readings.{pastArray, pastAnnotation}
 use Rattle.encoded_value.specs.Answers.{step-outcome}
-use Rattle.encoded_value.specs.declared.Step.{Step}
-use Rattle.encoded_value.specs.declared.Step.the-variants.{Next}
+use Rattle.encoded_value.specs.declared.StepAnswer.{StepAnswer}
+use Rattle.encoded_value.specs.declared.StepAnswer.the-variants.{Next}
 use Rattle.encoded_value.proofs.Leaves.{on-step}
 use Rattle.encoded_value.proofs.Bounds.{array-ends, annotation-ends}
 use Rattle.decoded_value.specs.Shown.{Shown}
 use Rattle.value_bodies.specs.Bodies.{Noted, ShownElement, arrayCount, arrayValue, annotationElement}
-use Rattle.value_bodies.specs.declared.Count.{Count}
-use Rattle.value_bodies.specs.declared.Head.{Head}
-use Rattle.value_bodies.specs.Answers.{count-outcome, head-outcome}
+use Rattle.value_bodies.specs.declared.BodySizeAnswer.{BodySizeAnswer}
+use Rattle.value_bodies.specs.declared.AnnotationHeadAnswer.{AnnotationHeadAnswer}
+use Rattle.value_bodies.specs.Answers.{count-outcome, annotation-head-outcome}
 use Rattle.annotation_items.specs.Items.{Summary, itemSummary, itemElement}
 use Rattle.value_readers.specs.Opening.{walk-in}
-use Rattle.value_readers.specs.Bodies.{Sized, arrayBody, NotedSize, notedBody}
+use Rattle.value_readers.specs.Bodies.{ArraySize, arrayBody, NotedSize, notedBody}
 
 pub walk-framed : (h : Header) (handles item : ℕ) {r : Frame} {w : Walk} → r ≡ frame-of h handles → w ≡ walkOf r item → w ≡ walk-in h handles item
 walk-framed h handles item e q = q ∙ ap (λ (x : Frame). walkOf x item) e
 
 -- a body that was read in the file up to the data section's end, s, against the file's counts, w
 module _ (f : List ℕ) (h : Header) (handles item p : ℕ) {s : List ℕ} {w : Walk} (e : s ≡ section f h) (g : w ≡ walk-in h handles item) where
-  pub array-walked : {y : Outcome Sized} → y ≡ arrayBody s w p → y ≡ arrayBody (section f h) (walk-in h handles item) p
+  pub array-walked : {y : Outcome ArraySize} → y ≡ arrayBody s w p → y ≡ arrayBody (section f h) (walk-in h handles item) p
   array-walked q = q ∙ (λ i. arrayBody (e i) (g i) p)
 
   pub count-walked : {y : Outcome ℕ} → y ≡ arrayCount s w p → y ≡ arrayCount (section f h) (walk-in h handles item) p
@@ -59,17 +59,17 @@ module _ (f : List ℕ) (h : Header) (handles item : ℕ) {s : List ℕ} {r : Fr
   element-framed k q = q ∙ (λ i. itemElement (e i) (g i) item k)
 
 -- a body ends after its place
-pub array-room : (s : List ℕ) (w : Walk) (p : ℕ) {x : Step} {q : ℕ} → step-outcome x ≡ pastArray s w deepest p → x ≡ Next q → p ≤ q
+pub array-room : (s : List ℕ) (w : Walk) (p : ℕ) {x : StepAnswer} {q : ℕ} → step-outcome x ≡ pastArray s w deepest p → x ≡ Next q → p ≤ q
 array-room s w p e t = let h = array-ends s w deepest p e t in let z = h .after-place in omega arith
 
-pub annotation-room : (s : List ℕ) (w : Walk) (p : ℕ) {x : Step} {q : ℕ} → step-outcome x ≡ pastAnnotation s w deepest p → x ≡ Next q → p ≤ q
+pub annotation-room : (s : List ℕ) (w : Walk) (p : ℕ) {x : StepAnswer} {q : ℕ} → step-outcome x ≡ pastAnnotation s w deepest p → x ≡ Next q → p ≤ q
 annotation-room s w p e t = let h = annotation-ends s w deepest p e t in let z = h .after-place in omega arith
 
-pub on-count : {B : Type 0} {x c : Count} {o : Outcome ℕ} {y : Outcome B} (k : ℕ → Outcome B) → count-outcome x ≡ o → x ≡ c → y ≡ (count-outcome c >>= k) → y ≡ (o >>= k)
+pub on-count : {B : Type 0} {x c : BodySizeAnswer} {o : Outcome ℕ} {y : Outcome B} (k : ℕ → Outcome B) → count-outcome x ≡ o → x ≡ c → y ≡ (count-outcome c >>= k) → y ≡ (o >>= k)
 on-count = said count-outcome
 
-pub on-noted : {B : Type 0} {x c : Head} {o : Outcome Noted} {y : Outcome B} (k : Noted → Outcome B) → head-outcome x ≡ o → x ≡ c → y ≡ (head-outcome c >>= k) → y ≡ (o >>= k)
-on-noted = said head-outcome
+pub on-noted : {B : Type 0} {x c : AnnotationHeadAnswer} {o : Outcome Noted} {y : Outcome B} (k : Noted → Outcome B) → annotation-head-outcome x ≡ o → x ≡ c → y ≡ (annotation-head-outcome c >>= k) → y ≡ (o >>= k)
+on-noted = said annotation-head-outcome
 
 pub ruleset body-laws = (array-room, annotation-room, on-count, on-noted, on-step, calls, needs)
 

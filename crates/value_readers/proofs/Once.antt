@@ -5,10 +5,10 @@ use Rattle.refusal.specs.Outcome.{Outcome, answer, refused}
 use Rattle.refusal.proofs.Laws.{one-to-one}
 use Rattle.value_readers.specs.declared.ArrayAnswer as A
 use Rattle.value_readers.specs.declared.BodyAnswer as B
-use Rattle.value_readers.specs.Bodies.{Sized, NotedSize}
+use Rattle.value_readers.specs.Bodies.{ArraySize, NotedSize}
 use Rattle.value_readers.specs.Answers.{array-outcome, body-outcome}
 
-array-back : Outcome Sized → A.ArrayAnswer
+array-back : Outcome ArraySize → A.ArrayAnswer
 array-back (answer a) = A.the-variants.Got (a .count) (a .length)
 array-back (refused r) = A.the-variants.Refused r
 

@@ -2,9 +2,9 @@
 use Rattle.refusal.specs.Outcome.{Outcome, answer, refused}
 use Rattle.value_readers.specs.declared.ArrayAnswer as A
 use Rattle.value_readers.specs.declared.BodyAnswer as B
-use Rattle.value_readers.specs.Bodies.{Sized, NotedSize}
+use Rattle.value_readers.specs.Bodies.{ArraySize, NotedSize}
 
-abbrev pub array-outcome : A.ArrayAnswer → Outcome Sized
+abbrev pub array-outcome : A.ArrayAnswer → Outcome ArraySize
 array-outcome (A.the-variants.Got n l) = answer (record { count = n; length = l })
 array-outcome (A.the-variants.Refused r) = refused r
 

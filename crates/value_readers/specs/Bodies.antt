@@ -11,17 +11,17 @@ use Rattle.value_bodies.specs.Bodies.{ShownElement, arrayCount, arrayValue, ann
 use Rattle.value_readers.specs.Opening.{walk-in, openedWithin}
 
 -- how many values an array has, and its length in bytes
-pub record Sized : Type 0 where
+pub record ArraySize : Type 0 where
   pub count : ℕ
   pub length : ℕ
 
-unfoldable pub arrayBody : List ℕ → Walk → ℕ → Outcome Sized
+unfoldable pub arrayBody : List ℕ → Walk → ℕ → Outcome ArraySize
 arrayBody s w p = do
   n ← arrayCount s w p
   end ← pastArray s w deepest p
   answer (record { count = n; length = end - p })
 
-unfoldable pub arrayOf : List ℕ → ℕ → Outcome Sized
+unfoldable pub arrayOf : List ℕ → ℕ → Outcome ArraySize
 arrayOf f place = openedWithin f place >>= λ o. arrayBody (section f (o .header)) (walk-in (o .header) (o .handles) place) place
 
 unfoldable pub arrayValueOf : List ℕ → ℕ → ℕ → Outcome Shown

@@ -1,12 +1,12 @@
 // Arrays and annotation bodies by place.
 use super::ArrayAnswer;
 use super::BodyAnswer;
-use encoded_value::Step;
+use encoded_value::StepAnswer;
 use table_readers::OpenedAnswer;
-use value_bodies::Count;
-use value_bodies::Element;
-use value_bodies::Head;
-use value_bodies::Picked;
+use value_bodies::AnnotationHeadAnswer;
+use value_bodies::BodySizeAnswer;
+use value_bodies::ElementAnswer;
+use value_bodies::PickedAnswer;
 use value_heads::Walk;
 ghost use mathlib.Core.Path.{_≡_};
 ghost use Rattle.value_bodies.specs.Answers.{picked-outcome, element-outcome};
@@ -18,10 +18,10 @@ fn array_body(s: &[u8], w: Walk, place: usize) -> ArrayAnswer
     ensures { λ r. ⌜ array-outcome r ≡ arrayBody (now (s .entry)) w place ⌝ }
 {
     match value_bodies::array_count(s, w, place) {
-        Count::Refused(r) => ArrayAnswer::Refused(r),
-        Count::Got(count) => match encoded_value::top_array(s, w, place) {
-            Step::Refused(r) => ArrayAnswer::Refused(r),
-            Step::Next(end) => ArrayAnswer::Got {
+        BodySizeAnswer::Refused(r) => ArrayAnswer::Refused(r),
+        BodySizeAnswer::Got(count) => match encoded_value::top_array(s, w, place) {
+            StepAnswer::Refused(r) => ArrayAnswer::Refused(r),
+            StepAnswer::Next(end) => ArrayAnswer::Got {
                 count,
                 length: end - place,
             },
@@ -47,11 +47,11 @@ pub fn array(f: &[u8], place: usize) -> ArrayAnswer
 }
 
 // Value k of the array at a place.
-pub fn array_value(f: &[u8], place: usize, k: u32) -> Picked
+pub fn array_value(f: &[u8], place: usize, k: u32) -> PickedAnswer
     ensures { λ r. ⌜ picked-outcome r ≡ arrayValueOf (now (f .entry)) place k ⌝ }
 {
     match super::opening::open_within(f, place) {
-        OpenedAnswer::Refused(r) => Picked::Refused(r),
+        OpenedAnswer::Refused(r) => PickedAnswer::Refused(r),
         OpenedAnswer::Got(o) => {
             let h = o.header;
             value_bodies::array_value(
@@ -69,10 +69,14 @@ fn noted_body(s: &[u8], w: Walk, place: usize) -> BodyAnswer
     ensures { λ r. ⌜ body-outcome r ≡ notedBody (now (s .entry)) w place ⌝ }
 {
     match value_bodies::annotation_head(s, w, place) {
-        Head::Refused(r) => BodyAnswer::Refused(r),
-        Head::Got { type_index, count } => match encoded_value::top_annotation(s, w, place) {
-            Step::Refused(r) => BodyAnswer::Refused(r),
-            Step::Next(end) => BodyAnswer::Got {
+        AnnotationHeadAnswer::Refused(r) => BodyAnswer::Refused(r),
+        AnnotationHeadAnswer::Got { type_index, count } => match encoded_value::top_annotation(
+            s,
+            w,
+            place,
+        ) {
+            StepAnswer::Refused(r) => BodyAnswer::Refused(r),
+            StepAnswer::Next(end) => BodyAnswer::Got {
                 type_index,
                 count,
                 length: end - place,
@@ -99,11 +103,11 @@ pub fn annotation_body(f: &[u8], place: usize) -> BodyAnswer
 }
 
 // Element k of the annotation body at a place.
-pub fn annotation_body_element(f: &[u8], place: usize, k: u32) -> Element
+pub fn annotation_body_element(f: &[u8], place: usize, k: u32) -> ElementAnswer
     ensures { λ r. ⌜ element-outcome r ≡ elementOf (now (f .entry)) place k ⌝ }
 {
     match super::opening::open_within(f, place) {
-        OpenedAnswer::Refused(r) => Element::Refused(r),
+        OpenedAnswer::Refused(r) => ElementAnswer::Refused(r),
         OpenedAnswer::Got(o) => {
             let h = o.header;
             value_bodies::annotation_element(

@@ -1,7 +1,7 @@
 // Annotation items by place. They hold values, so the map is read first.
 use annotation_items::SummaryAnswer;
 use table_readers::OpenedAnswer;
-use value_bodies::Element;
+use value_bodies::ElementAnswer;
 ghost use mathlib.Core.Path.{_≡_};
 ghost use Rattle.value_bodies.specs.Answers.{element-outcome};
 ghost use Rattle.annotation_items.specs.Answers.{summary-outcome};
@@ -25,11 +25,11 @@ pub fn annotation(f: &[u8], place: usize) -> SummaryAnswer
 }
 
 // Element k of the annotation item at a place: its name and its value.
-pub fn annotation_element(f: &[u8], place: usize, k: u32) -> Element
+pub fn annotation_element(f: &[u8], place: usize, k: u32) -> ElementAnswer
     ensures { λ r. ⌜ element-outcome r ≡ elementOf (now (f .entry)) place k ⌝ }
 {
     match super::opening::open_within(f, place) {
-        OpenedAnswer::Refused(r) => Element::Refused(r),
+        OpenedAnswer::Refused(r) => ElementAnswer::Refused(r),
         OpenedAnswer::Got(o) => {
             let h = o.header;
             annotation_items::annotation_element(

@@ -3,14 +3,14 @@ use class_ids::ClassAnswer;
 use header::Header;
 use refusal::Refusal;
 use table_readers::OpenedAnswer;
-use value_bodies::Count;
-use value_bodies::Picked;
+use value_bodies::BodySizeAnswer;
+use value_bodies::PickedAnswer;
 ghost use mathlib.Core.Path.{_≡_};
 ghost use Rattle.value_bodies.specs.Answers.{count-outcome, picked-outcome};
 ghost use Rattle.value_readers.specs.Statics.{valuesIn, valuesUnder, staticCount, valueIn, valueUnder, staticValue};
 
 // How many values the array of a class has, 0 where it is absent.
-fn values_in(f: &[u8], h: Header, handles: u32, at: u32) -> Count
+fn values_in(f: &[u8], h: Header, handles: u32, at: u32) -> BodySizeAnswer
     ensures { λ r. ⌜ count-outcome r ≡ valuesIn (now (f .entry)) h handles at ⌝ }
 {
     let place = at as usize;
@@ -21,24 +21,24 @@ fn values_in(f: &[u8], h: Header, handles: u32, at: u32) -> Count
             place,
         );
     }
-    Count::Got(0)
+    BodySizeAnswer::Got(0)
 }
 
-fn values_under(f: &[u8], h: Header, handles: u32, c: u32) -> Count
+fn values_under(f: &[u8], h: Header, handles: u32, c: u32) -> BodySizeAnswer
     ensures { λ r. ⌜ count-outcome r ≡ valuesUnder (now (f .entry)) c h handles ⌝ }
 {
     match table_readers::class_in(f, h, c) {
-        ClassAnswer::Refused(r) => Count::Refused(r),
+        ClassAnswer::Refused(r) => BodySizeAnswer::Refused(r),
         ClassAnswer::Got(found) => values_in(f, h, handles, found.values),
     }
 }
 
 // How many static values class c has.
-pub fn static_value_count(f: &[u8], c: u32) -> Count
+pub fn static_value_count(f: &[u8], c: u32) -> BodySizeAnswer
     ensures { λ r. ⌜ count-outcome r ≡ staticCount (now (f .entry)) c ⌝ }
 {
     match table_readers::open(f) {
-        OpenedAnswer::Refused(r) => Count::Refused(r),
+        OpenedAnswer::Refused(r) => BodySizeAnswer::Refused(r),
         OpenedAnswer::Got(o) => {
             let h = o.header;
             values_under(f, h, o.handles, c)
@@ -47,7 +47,7 @@ pub fn static_value_count(f: &[u8], c: u32) -> Count
 }
 
 // Value k of the array of a class.
-fn value_in(f: &[u8], h: Header, handles: u32, at: u32, k: u32) -> Picked
+fn value_in(f: &[u8], h: Header, handles: u32, at: u32, k: u32) -> PickedAnswer
     ensures { λ r. ⌜ picked-outcome r ≡ valueIn (now (f .entry)) h handles at k ⌝ }
 {
     let place = at as usize;
@@ -59,27 +59,27 @@ fn value_in(f: &[u8], h: Header, handles: u32, at: u32, k: u32) -> Picked
             k,
         );
     }
-    Picked::Refused(Refusal {
+    PickedAnswer::Refused(Refusal {
         number: 7,
         place: 0,
     })
 }
 
-fn value_under(f: &[u8], h: Header, handles: u32, c: u32, k: u32) -> Picked
+fn value_under(f: &[u8], h: Header, handles: u32, c: u32, k: u32) -> PickedAnswer
     ensures { λ r. ⌜ picked-outcome r ≡ valueUnder (now (f .entry)) c k h handles ⌝ }
 {
     match table_readers::class_in(f, h, c) {
-        ClassAnswer::Refused(r) => Picked::Refused(r),
+        ClassAnswer::Refused(r) => PickedAnswer::Refused(r),
         ClassAnswer::Got(found) => value_in(f, h, handles, found.values, k),
     }
 }
 
 // Static value k of class c.
-pub fn static_value(f: &[u8], c: u32, k: u32) -> Picked
+pub fn static_value(f: &[u8], c: u32, k: u32) -> PickedAnswer
     ensures { λ r. ⌜ picked-outcome r ≡ staticValue (now (f .entry)) c k ⌝ }
 {
     match table_readers::open(f) {
-        OpenedAnswer::Refused(r) => Picked::Refused(r),
+        OpenedAnswer::Refused(r) => PickedAnswer::Refused(r),
         OpenedAnswer::Got(o) => {
             let h = o.header;
             value_under(f, h, o.handles, c, k)

@@ -11,8 +11,8 @@ use native.Mathlib.Omega.{arith}
 use mir.Syntax.{w32}
 use mir.Val.{Fits}
 use Rattle.refusal.specs.declared.Refusal.{Refusal}
-use Rattle.refusal.specs.declared.Checked.{Checked}
-use Rattle.refusal.specs.declared.Checked.the-variants as C
+use Rattle.refusal.specs.declared.CheckAnswer.{CheckAnswer}
+use Rattle.refusal.specs.declared.CheckAnswer.the-variants as C
 use Rattle.refusal.specs.Outcome.{Outcome, answer, refused, _>>=_, accepted}
 use Rattle.refusal.specs.Rows.{every, follows}
 use Rattle.refusal.specs.Answers.{checked-outcome}
@@ -48,7 +48,7 @@ module _ {A : Type 0} {entry : ℕ → Outcome A} {count left k : ℕ} (h : Coun
   pub counting-done : left ≤ 0 → answer tt ≡ (every entry count >>= accepted)
   counting-done l = numbers-done (h .numbers) l
 
-  module _ {x : Checked} (l : 0 < left) (e : checked-outcome x ≡ (entry k >>= accepted)) where
+  module _ {x : CheckAnswer} (l : 0 < left) (e : checked-outcome x ≡ (entry k >>= accepted)) where
     pub counting-next : x ≡ C.Accepted → Counting entry count (left - 1) (k + 1)
     counting-next t = record { numbers = numbers-next (h .numbers) l (sym (accepted-answer (entry k) (sym (ap checked-outcome t) ∙ e) .1)); sum = let s = h .sum in omega arith }
 

@@ -10,9 +10,9 @@ use Rattle.map_list.specs.Map.{Map, mapAt}
 use Rattle.text.specs.Text.{Text}
 use Rattle.string_ids.specs.Strings.{stringsAt}
 use Rattle.ids.specs.declared.Proto.{Proto}
-use Rattle.ids.specs.declared.Member.{Member}
+use Rattle.ids.specs.declared.MemberId.{MemberId}
 use Rattle.ids.specs.declared.Handle.{Handle}
-use Rattle.ids.specs.Records.{typesAt, protoAt, memberAt, handleAt}
+use Rattle.ids.specs.Records.{typesAt, protoAt, memberIdAt, handleAt}
 use Rattle.type_list.specs.Below.{typesBelow}
 use Rattle.class_walk.specs.Classes as C
 
@@ -28,8 +28,8 @@ pub record File : Type 0 where
   pub strings : List Text
   pub types : List ℕ
   pub protos : List ProtoBelow
-  pub fields : List Member
-  pub methods : List Member
+  pub fields : List MemberId
+  pub methods : List MemberId
   pub handles : List Handle
   pub classes : List C.ClassBelow
 
@@ -41,11 +41,11 @@ module _ (f : List ℕ) (h : Header) where
     l ← typesBelow f h (p .parameters)
     answer (record { own = p; parameters = l })
 
-  abbrev pub fieldAt : ℕ → Outcome Member
-  fieldAt = memberAt f (frame-of h 0) (h .types .count) (h .fields .offset)
+  abbrev pub fieldAt : ℕ → Outcome MemberId
+  fieldAt = memberIdAt f (frame-of h 0) (h .types .count) (h .fields .offset)
 
-  abbrev pub methodAt : ℕ → Outcome Member
-  methodAt = memberAt f (frame-of h 0) (h .protos .count) (h .methods .offset)
+  abbrev pub methodAt : ℕ → Outcome MemberId
+  methodAt = memberIdAt f (frame-of h 0) (h .protos .count) (h .methods .offset)
 
   abbrev pub handleIn : Map → ℕ → Outcome Handle
   handleIn m = handleAt f (frame-of h (m .handles .count)) (m .handles .offset)

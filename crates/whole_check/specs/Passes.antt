@@ -11,7 +11,7 @@ use Rattle.header.specs.declared.Header.{Header}
 use Rattle.header.specs.declared.Table.{Table}
 use Rattle.header.specs.Header.{frame-of}
 use Rattle.map_list.specs.Map.{keptAt}
-use Rattle.ids.specs.Records.{typesAt, memberAt, handleAt}
+use Rattle.ids.specs.Records.{typesAt, memberIdAt, handleAt}
 use Rattle.string_ids.specs.Strings.{stringsChecked}
 use Rattle.class_walk.specs.Classes as C
 use Rattle.whole_check.specs.File.{protoBelow}
@@ -27,7 +27,7 @@ abbrev pub typesPass : List ℕ → Frame → ℕ → ℕ → Outcome Unit
 typesPass f r offset count = typesAt f r offset count >>= accepted
 
 abbrev pub membersPass : List ℕ → Frame → ℕ → ℕ → ℕ → Outcome Unit
-membersPass f r kinds offset count = every (memberAt f r kinds offset) count >>= accepted
+membersPass f r kinds offset count = every (memberIdAt f r kinds offset) count >>= accepted
 
 abbrev pub handlePass : List ℕ → Frame → ℕ → ℕ → Outcome Unit
 handlePass f r offset n = handleAt f r offset n >>= accepted

@@ -3,7 +3,7 @@ use header::Header;
 use header::HeaderAnswer;
 use header::Table;
 use map_list::MapAnswer;
-use refusal::Checked;
+use refusal::CheckAnswer;
 use verdict::Verdict;
 ghost use mathlib.Core.Path.{_≡_};
 ghost use Rattle.refusal.specs.Answers.{checked-outcome};
@@ -14,24 +14,24 @@ ghost use Rattle.whole_check.specs.Passes.{namesPass, recordsPass, items
 mod tables;
 
 // Strings, types, and protos with their parameters.
-fn names_pass(f: &[u8], h: Header) -> Checked
+fn names_pass(f: &[u8], h: Header) -> CheckAnswer
     ensures { λ r. ⌜ checked-outcome r ≡ namesPass (now (f .entry)) h ⌝ }
 {
     let types = h.types;
     let protos = h.protos;
     match string_ids::check_strings(f, h) {
-        Checked::Refused(r) => Checked::Refused(r),
-        Checked::Accepted => {
+        CheckAnswer::Refused(r) => CheckAnswer::Refused(r),
+        CheckAnswer::Accepted => {
             match tables::types_pass(f, header::frame_of(h, 0), types.offset, types.count) {
-                Checked::Refused(r) => Checked::Refused(r),
-                Checked::Accepted => tables::protos_pass(f, h, protos.count),
+                CheckAnswer::Refused(r) => CheckAnswer::Refused(r),
+                CheckAnswer::Accepted => tables::protos_pass(f, h, protos.count),
             }
         }
     }
 }
 
 // Fields and methods.
-fn records_pass(f: &[u8], h: Header) -> Checked
+fn records_pass(f: &[u8], h: Header) -> CheckAnswer
     ensures { λ r. ⌜ checked-outcome r ≡ recordsPass (now (f .entry)) h ⌝ }
 {
     let types = h.types;
@@ -40,41 +40,41 @@ fn records_pass(f: &[u8], h: Header) -> Checked
     let methods = h.methods;
     let frame = header::frame_of(h, 0);
     match tables::members_pass(f, frame, types.count, fields.offset, fields.count) {
-        Checked::Refused(r) => Checked::Refused(r),
-        Checked::Accepted => {
+        CheckAnswer::Refused(r) => CheckAnswer::Refused(r),
+        CheckAnswer::Accepted => {
             tables::members_pass(f, frame, protos.count, methods.offset, methods.count)
         }
     }
 }
 
 // Method handles, and classes with all below them.
-fn items_pass(f: &[u8], h: Header, t: Table) -> Checked
+fn items_pass(f: &[u8], h: Header, t: Table) -> CheckAnswer
     ensures { λ r. ⌜ checked-outcome r ≡ itemsPass (now (f .entry)) h t ⌝ }
 {
     let classes = h.classes;
     match tables::handles_pass(f, header::frame_of(h, t.count), t.offset, t.count) {
-        Checked::Refused(r) => Checked::Refused(r),
-        Checked::Accepted => tables::classes_pass(f, h, t.count, classes.count),
+        CheckAnswer::Refused(r) => CheckAnswer::Refused(r),
+        CheckAnswer::Accepted => tables::classes_pass(f, h, t.count, classes.count),
     }
 }
 
-fn tables_pass(f: &[u8], h: Header, t: Table) -> Checked
+fn tables_pass(f: &[u8], h: Header, t: Table) -> CheckAnswer
     ensures { λ r. ⌜ checked-outcome r ≡ tablesPass (now (f .entry)) h t ⌝ }
 {
     match names_pass(f, h) {
-        Checked::Refused(r) => Checked::Refused(r),
-        Checked::Accepted => match records_pass(f, h) {
-            Checked::Refused(r) => Checked::Refused(r),
-            Checked::Accepted => items_pass(f, h, t),
+        CheckAnswer::Refused(r) => CheckAnswer::Refused(r),
+        CheckAnswer::Accepted => match records_pass(f, h) {
+            CheckAnswer::Refused(r) => CheckAnswer::Refused(r),
+            CheckAnswer::Accepted => items_pass(f, h, t),
         },
     }
 }
 
-fn check_in(f: &[u8], h: Header) -> Checked
+fn check_in(f: &[u8], h: Header) -> CheckAnswer
     ensures { λ r. ⌜ checked-outcome r ≡ passIn (now (f .entry)) h ⌝ }
 {
     match map_list::map_of(f, h) {
-        MapAnswer::Refused(r) => Checked::Refused(r),
+        MapAnswer::Refused(r) => CheckAnswer::Refused(r),
         MapAnswer::Got(m) => {
             let t = m.handles;
             tables_pass(f, h, t)
@@ -87,8 +87,8 @@ fn verdict_in(f: &[u8], h: Header) -> Verdict
     ensures { λ r. ⌜ verdict-outcome r ≡ verdictIn (now (f .entry)) h ⌝ }
 {
     match check_in(f, h) {
-        Checked::Refused(r) => Verdict::Refused(r),
-        Checked::Accepted => Verdict::Accepted(h),
+        CheckAnswer::Refused(r) => Verdict::Refused(r),
+        CheckAnswer::Accepted => Verdict::Accepted(h),
     }
 }
 
@@ -103,11 +103,11 @@ pub fn verdict(f: &[u8]) -> Verdict
 }
 
 // Accepted, or the first broken rule in document 01's order.
-pub fn check(f: &[u8]) -> Checked
+pub fn check(f: &[u8]) -> CheckAnswer
     ensures { λ r. ⌜ checked-outcome r ≡ checkAt (now (f .entry)) ⌝ }
 {
     match verdict(f) {
-        Verdict::Refused(r) => Checked::Refused(r),
-        Verdict::Accepted(_) => Checked::Accepted,
+        Verdict::Refused(r) => CheckAnswer::Refused(r),
+        Verdict::Accepted(_) => CheckAnswer::Accepted,
     }
 }

@@ -4,7 +4,7 @@ use header::Header;
 use ids::HandleAnswer;
 use ids::IndexAnswer;
 use ids::ProtoAnswer;
-use refusal::Checked;
+use refusal::CheckAnswer;
 use refusal::Refusal;
 ghost use mathlib.Core.Path.{_≡_};
 ghost use Prim.Native.Nat.{_+_, _*_};
@@ -29,7 +29,7 @@ fn place_of(offset: u32, n: u32) -> usize
 }
 
 // All types, each by its own rule and then by its order.
-pub fn types_pass(f: &[u8], r: Frame, offset: u32, count: u32) -> Checked
+pub fn types_pass(f: &[u8], r: Frame, offset: u32, count: u32) -> CheckAnswer
     ensures { λ a. ⌜ checked-outcome a ≡ typesPass (now (f .entry)) r offset count ⌝ }
 {
     let mut later = false;
@@ -39,13 +39,13 @@ pub fn types_pass(f: &[u8], r: Frame, offset: u32, count: u32) -> Checked
     while 0 < left {
         match ids::type_at(f, r, offset, k) {
             IndexAnswer::Refused(a) => {
-                return Checked::Refused(a);
+                return CheckAnswer::Refused(a);
             }
             IndexAnswer::Got(string) => {
                 if rises(later, last, string) {
                     last = string;
                 } else {
-                    return Checked::Refused(Refusal {
+                    return CheckAnswer::Refused(Refusal {
                         number: 15,
                         place: place_of(offset, k),
                     });
@@ -56,103 +56,103 @@ pub fn types_pass(f: &[u8], r: Frame, offset: u32, count: u32) -> Checked
         k += 1;
         left -= 1;
     }
-    Checked::Accepted
+    CheckAnswer::Accepted
 }
 
 // Proto n with its parameter list.
-fn proto_pass(f: &[u8], h: Header, n: u32) -> Checked
+fn proto_pass(f: &[u8], h: Header, n: u32) -> CheckAnswer
     ensures { λ r. ⌜ checked-outcome r ≡ protoPass (now (f .entry)) h n ⌝ }
 {
     let t = h.protos;
     match ids::proto_at(f, header::frame_of(h, 0), h.end, t.offset, n) {
-        ProtoAnswer::Refused(r) => Checked::Refused(r),
+        ProtoAnswer::Refused(r) => CheckAnswer::Refused(r),
         ProtoAnswer::Got(p) => type_list::check_types(f, h, p.parameters),
     }
 }
 
-pub fn protos_pass(f: &[u8], h: Header, count: u32) -> Checked
+pub fn protos_pass(f: &[u8], h: Header, count: u32) -> CheckAnswer
     ensures { λ r. ⌜ checked-outcome r ≡ protosPass (now (f .entry)) h count ⌝ }
 {
     let mut k: u32 = 0;
     let mut left = count;
     while 0 < left {
         match proto_pass(f, h, k) {
-            Checked::Refused(r) => {
-                return Checked::Refused(r);
+            CheckAnswer::Refused(r) => {
+                return CheckAnswer::Refused(r);
             }
-            Checked::Accepted => {
+            CheckAnswer::Accepted => {
                 k += 1;
             }
         }
         left -= 1;
     }
-    Checked::Accepted
+    CheckAnswer::Accepted
 }
 
 // The fields or the methods: `kinds` counts types for fields, protos for methods.
-pub fn members_pass(f: &[u8], r: Frame, kinds: u32, offset: u32, count: u32) -> Checked
+pub fn members_pass(f: &[u8], r: Frame, kinds: u32, offset: u32, count: u32) -> CheckAnswer
     ensures { λ a. ⌜ checked-outcome a ≡ membersPass (now (f .entry)) r kinds offset count ⌝ }
 {
     let mut k: u32 = 0;
     let mut left = count;
     while 0 < left {
         match ids::check_member(f, r, kinds, offset, k) {
-            Checked::Refused(a) => {
-                return Checked::Refused(a);
+            CheckAnswer::Refused(a) => {
+                return CheckAnswer::Refused(a);
             }
-            Checked::Accepted => {
+            CheckAnswer::Accepted => {
                 k += 1;
             }
         }
         left -= 1;
     }
-    Checked::Accepted
+    CheckAnswer::Accepted
 }
 
-fn handle_pass(f: &[u8], r: Frame, offset: u32, n: u32) -> Checked
+fn handle_pass(f: &[u8], r: Frame, offset: u32, n: u32) -> CheckAnswer
     ensures { λ a. ⌜ checked-outcome a ≡ handlePass (now (f .entry)) r offset n ⌝ }
 {
     match ids::handle_at(f, r, offset, n) {
-        HandleAnswer::Refused(a) => Checked::Refused(a),
-        HandleAnswer::Got(_) => Checked::Accepted,
+        HandleAnswer::Refused(a) => CheckAnswer::Refused(a),
+        HandleAnswer::Got(_) => CheckAnswer::Accepted,
     }
 }
 
-pub fn handles_pass(f: &[u8], r: Frame, offset: u32, count: u32) -> Checked
+pub fn handles_pass(f: &[u8], r: Frame, offset: u32, count: u32) -> CheckAnswer
     ensures { λ a. ⌜ checked-outcome a ≡ handlesPass (now (f .entry)) r offset count ⌝ }
 {
     let mut k: u32 = 0;
     let mut left = count;
     while 0 < left {
         match handle_pass(f, r, offset, k) {
-            Checked::Refused(a) => {
-                return Checked::Refused(a);
+            CheckAnswer::Refused(a) => {
+                return CheckAnswer::Refused(a);
             }
-            Checked::Accepted => {
+            CheckAnswer::Accepted => {
                 k += 1;
             }
         }
         left -= 1;
     }
-    Checked::Accepted
+    CheckAnswer::Accepted
 }
 
 // All classes, each with all below it.
-pub fn classes_pass(f: &[u8], h: Header, handles: u32, count: u32) -> Checked
+pub fn classes_pass(f: &[u8], h: Header, handles: u32, count: u32) -> CheckAnswer
     ensures { λ r. ⌜ checked-outcome r ≡ classesPass (now (f .entry)) h handles count ⌝ }
 {
     let mut k: u32 = 0;
     let mut left = count;
     while 0 < left {
         match class_walk::check_class(f, h, handles, k) {
-            Checked::Refused(r) => {
-                return Checked::Refused(r);
+            CheckAnswer::Refused(r) => {
+                return CheckAnswer::Refused(r);
             }
-            Checked::Accepted => {
+            CheckAnswer::Accepted => {
                 k += 1;
             }
         }
         left -= 1;
     }
-    Checked::Accepted
+    CheckAnswer::Accepted
 }

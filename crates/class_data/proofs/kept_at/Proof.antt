@@ -1,5 +1,5 @@
 use Rattle.class_data.proofs.Laws.{stage-laws as laws}
-use Rattle.class_data.specs.Data.{keptAt}
+use Rattle.class_data.specs.Data.{keptDataAt}
 use Rattle.class_data.proofs.kept_at.Statement.{statement}
 use Rattle.class_data.proofs.kept_at.Tie as tie
 use Rattle.class_data.proofs.kept_at.Reads as reads
@@ -35,19 +35,19 @@ enum-known-directs : tie.Need-enum-known-directs
 enum-known-directs c = search laws depth 9
 
 returns : tie.Need-returns
-unfolding keptAt
+unfolding keptDataAt
 returns c = search laws depth 9
 
 returns-2 : tie.Need-returns-2
-unfolding keptAt
+unfolding keptDataAt
 returns-2 c = search laws depth 9
 
 returns-3 : tie.Need-returns-3
-unfolding keptAt
+unfolding keptDataAt
 returns-3 c = search laws depth 9
 
 returns-4 : tie.Need-returns-4
-unfolding keptAt
+unfolding keptDataAt
 returns-4 c = search laws depth 9
 
 pub kept-at-spec : {M : Type 1} → statement M

@@ -1,5 +1,5 @@
 use Rattle.class_data.proofs.Laws.{part-laws as laws}
-use Rattle.class_data.specs.Data.{pairAt}
+use Rattle.class_data.specs.Data.{twoNumbersAt}
 use Rattle.class_data.proofs.pair_at.Statement.{statement}
 use Rattle.class_data.proofs.pair_at.Tie as tie
 use Rattle.class_data.proofs.pair_at.Reads as reads
@@ -25,15 +25,15 @@ enum-known-second : tie.Need-enum-known-second
 enum-known-second c = search laws depth 7
 
 returns : tie.Need-returns
-unfolding pairAt
+unfolding twoNumbersAt
 returns c = search laws depth 7
 
 returns-2 : tie.Need-returns-2
-unfolding pairAt
+unfolding twoNumbersAt
 returns-2 c = search laws depth 7
 
 returns-3 : tie.Need-returns-3
-unfolding pairAt
+unfolding twoNumbersAt
 returns-3 c = search laws depth 7
 
 pub pair-at-spec : {M : Type 1} → statement M

@@ -1,5 +1,5 @@
 use Rattle.debug_info.proofs.Laws.{stage-laws as laws}
-use Rattle.debug_info.specs.Debug.{keptAt}
+use Rattle.debug_info.specs.Debug.{keptDebugAt}
 use Rattle.debug_info.proofs.kept_at.Statement.{statement}
 use Rattle.debug_info.proofs.kept_at.Tie as tie
 use Rattle.debug_info.proofs.kept_at.Reads as reads
@@ -29,15 +29,15 @@ body-at-requires : tie.Need-body-at-requires
 body-at-requires c κs = search laws depth 7
 
 returns : tie.Need-returns
-unfolding keptAt
+unfolding keptDebugAt
 returns c = search laws depth 7
 
 returns-2 : tie.Need-returns-2
-unfolding keptAt
+unfolding keptDebugAt
 returns-2 c = search laws depth 7
 
 returns-3 : tie.Need-returns-3
-unfolding keptAt
+unfolding keptDebugAt
 returns-3 c = search laws depth 7
 
 pub kept-at-spec : {M : Type 1} → statement M

@@ -1,5 +1,5 @@
 use Rattle.directory_readers.proofs.Laws.{laws}
-use Rattle.directory_readers.specs.Directories.{entryOf}
+use Rattle.directory_readers.specs.Directories.{entryNumber}
 use Rattle.directory_readers.proofs.entry_of.Statement.{statement}
 use Rattle.directory_readers.proofs.entry_of.Tie as tie
 use Rattle.directory_readers.proofs.entry_of.Reads as reads
@@ -20,11 +20,11 @@ entry-in-requires : tie.Need-entry-in-requires
 entry-in-requires c κs = search laws
 
 returns : tie.Need-returns
-unfolding entryOf
+unfolding entryNumber
 returns c = search laws
 
 returns-2 : tie.Need-returns-2
-unfolding entryOf
+unfolding entryNumber
 returns-2 c = search laws
 
 pub entry-of-spec : {M : Type 1} → statement M

@@ -1,5 +1,5 @@
 use Rattle.set_readers.proofs.Laws.{laws}
-use Rattle.set_readers.specs.Sets.{countOf}
+use Rattle.set_readers.specs.Sets.{annotationCount}
 use Rattle.set_readers.proofs.count_of.Statement.{statement}
 use Rattle.set_readers.proofs.count_of.Tie as tie
 use Rattle.set_readers.proofs.count_of.Reads as reads
@@ -16,11 +16,11 @@ set-count-requires : tie.Need-set-count-requires
 set-count-requires c κs = search laws
 
 returns : tie.Need-returns
-unfolding countOf
+unfolding annotationCount
 returns c = search laws
 
 returns-2 : tie.Need-returns-2
-unfolding countOf
+unfolding annotationCount
 returns-2 c = search laws
 
 pub count-of-spec : {M : Type 1} → statement M

@@ -1,5 +1,5 @@
 use Rattle.set_readers.proofs.Laws.{laws}
-use Rattle.set_readers.specs.Sets.{placeOf}
+use Rattle.set_readers.specs.Sets.{annotationPlace}
 use Rattle.set_readers.proofs.place_of.Statement.{statement}
 use Rattle.set_readers.proofs.place_of.Tie as tie
 use Rattle.set_readers.proofs.place_of.Reads as reads
@@ -16,11 +16,11 @@ set-number-requires : tie.Need-set-number-requires
 set-number-requires c κs = search laws
 
 returns : tie.Need-returns
-unfolding placeOf
+unfolding annotationPlace
 returns c = search laws
 
 returns-2 : tie.Need-returns-2
-unfolding placeOf
+unfolding annotationPlace
 returns-2 c = search laws
 
 pub place-of-spec : {M : Type 1} → statement M

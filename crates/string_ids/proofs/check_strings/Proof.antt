@@ -10,10 +10,10 @@ use Rattle.string_ids.proofs.rises.Reads as rises-reads
 use Rattle.string_ids.proofs.string_at.Reads as string-at-reads
 
 abbrev Inv-loop : tie.InvT-loop
-Inv-loop f h s last₀ k₀ left₀ last k left = Checking f h s left k last
+Inv-loop f h s last₀ n₀ more₀ last n more = Checking f h s more n last
 
 abbrev μ-loop : tie.MeasureT-loop
-μ-loop f h s last₀ k₀ left₀ last k left = left
+μ-loop f h s last₀ n₀ more₀ last n more = more
 
 section-of-requires : tie.Need-section-of-requires Inv-loop μ-loop
 section-of-requires c κs = search laws
@@ -42,11 +42,11 @@ place-of-requires c κs = search laws
 returns-2 : tie.Need-returns-2 Inv-loop μ-loop
 returns-2 c = search laws
 
-add-k : tie.Need-add-k Inv-loop μ-loop
-add-k c = search laws
+add-n : tie.Need-add-n Inv-loop μ-loop
+add-n c = search laws
 
-sub-left : tie.Need-sub-left Inv-loop μ-loop
-sub-left c = search laws
+sub-more : tie.Need-sub-more Inv-loop μ-loop
+sub-more c = search laws
 
 loop-less : tie.Need-loop-less Inv-loop μ-loop
 loop-less c = search laws
@@ -72,8 +72,8 @@ check-strings-spec =
     rises-requires
     place-of-requires
     returns-2
-    add-k
-    sub-left
+    add-n
+    sub-more
     loop-less
     loop-again
     returns-3)

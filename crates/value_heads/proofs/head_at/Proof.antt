@@ -1,5 +1,5 @@
 use Rattle.value_heads.proofs.Laws.{head-laws as laws}
-use Rattle.value_heads.specs.Readings.{headAt}
+use Rattle.value_heads.specs.Readings.{headByteAt}
 use Rattle.value_heads.proofs.head_at.Statement.{statement}
 use Rattle.value_heads.proofs.head_at.Tie as tie
 use Rattle.value_heads.proofs.head_at.Reads as reads
@@ -7,7 +7,7 @@ use Rattle.value_heads.proofs.head_at.Lts as lts
 use Rattle.value_heads.proofs.is_allowed_head.Reads as is-allowed-head-reads
 
 returns : tie.Need-returns
-unfolding headAt
+unfolding headByteAt
 returns c = search laws
 
 shared-slice-read-head : tie.Need-shared-slice-read-head
@@ -17,11 +17,11 @@ is-allowed-head-requires : tie.Need-is-allowed-head-requires
 is-allowed-head-requires c κs = search laws
 
 returns-2 : tie.Need-returns-2
-unfolding headAt
+unfolding headByteAt
 returns-2 c = search laws
 
 returns-3 : tie.Need-returns-3
-unfolding headAt
+unfolding headByteAt
 returns-3 c = search laws
 
 pub head-at-spec : {M : Type 1} → statement M

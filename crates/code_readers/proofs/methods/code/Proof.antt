@@ -1,5 +1,5 @@
 use Rattle.class_readers.proofs.SpotLaws.{laws}
-use Rattle.code_readers.specs.Code.{codeOf}
+use Rattle.code_readers.specs.Code.{methodCode}
 use Rattle.code_readers.proofs.methods.code.Statement.{statement}
 use Rattle.code_readers.proofs.methods.code.Tie as tie
 use Rattle.code_readers.proofs.methods.code.Reads as reads
@@ -23,15 +23,15 @@ outline-under-requires : tie.Need-outline-under-requires
 outline-under-requires c κs = search laws
 
 returns : tie.Need-returns
-unfolding codeOf
+unfolding methodCode
 returns c = search laws
 
 returns-2 : tie.Need-returns-2
-unfolding codeOf
+unfolding methodCode
 returns-2 c = search laws
 
 returns-3 : tie.Need-returns-3
-unfolding codeOf
+unfolding methodCode
 returns-3 c = search laws
 
 pub code-spec : {M : Type 1} → statement M

@@ -1,5 +1,5 @@
 use Rattle.code_readers.proofs.Laws.{laws}
-use Rattle.code_readers.specs.Code.{unitsOf}
+use Rattle.code_readers.specs.Code.{methodUnits}
 use Rattle.code_readers.proofs.methods.units.Statement.{statement}
 use Rattle.code_readers.proofs.methods.units.Tie as tie
 use Rattle.code_readers.proofs.methods.units.Reads as reads
@@ -23,18 +23,18 @@ units-under-requires : tie.Need-units-under-requires
 units-under-requires c κs = search laws
 
 returns : tie.Need-returns
-unfolding unitsOf
+unfolding methodUnits
 returns c = search laws
 
 returns-2 : tie.Need-returns-2
-unfolding unitsOf
+unfolding methodUnits
 returns-2 c = search laws
 
 same-length : tie.Need-same-length
 same-length c = search laws
 
 returns-3 : tie.Need-returns-3
-unfolding unitsOf
+unfolding methodUnits
 returns-3 c = search laws
 
 pub units-spec : {M : Type 1} → statement M

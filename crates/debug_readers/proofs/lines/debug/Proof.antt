@@ -1,5 +1,5 @@
 use Rattle.class_readers.proofs.SpotLaws.{laws}
-use Rattle.debug_readers.specs.Debug.{debugOf}
+use Rattle.debug_readers.specs.Debug.{methodDebug}
 use Rattle.debug_readers.proofs.lines.debug.Statement.{statement}
 use Rattle.debug_readers.proofs.lines.debug.Tie as tie
 use Rattle.debug_readers.proofs.lines.debug.Reads as reads
@@ -23,15 +23,15 @@ extent-under-requires : tie.Need-extent-under-requires
 extent-under-requires c κs = search laws
 
 returns : tie.Need-returns
-unfolding debugOf
+unfolding methodDebug
 returns c = search laws
 
 returns-2 : tie.Need-returns-2
-unfolding debugOf
+unfolding methodDebug
 returns-2 c = search laws
 
 returns-3 : tie.Need-returns-3
-unfolding debugOf
+unfolding methodDebug
 returns-3 c = search laws
 
 pub debug-spec : {M : Type 1} → statement M

@@ -1,5 +1,5 @@
 use Rattle.table_readers.proofs.TableLaws.{laws}
-use Rattle.table_readers.specs.Tables.{classOf}
+use Rattle.table_readers.specs.Tables.{classNumber}
 use Rattle.table_readers.proofs.tables.class.Statement.{statement}
 use Rattle.table_readers.proofs.tables.class.Tie as tie
 use Rattle.table_readers.proofs.tables.class.Reads as reads
@@ -20,11 +20,11 @@ class-in-requires : tie.Need-class-in-requires
 class-in-requires c κs = search laws
 
 returns : tie.Need-returns
-unfolding classOf
+unfolding classNumber
 returns c = search laws
 
 returns-2 : tie.Need-returns-2
-unfolding classOf
+unfolding classNumber
 returns-2 c = search laws
 
 pub class-spec : {M : Type 1} → statement M

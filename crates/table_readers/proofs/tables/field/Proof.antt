@@ -1,5 +1,5 @@
 use Rattle.table_readers.proofs.TableLaws.{laws}
-use Rattle.table_readers.specs.Tables.{fieldOf}
+use Rattle.table_readers.specs.Tables.{fieldNumber}
 use Rattle.table_readers.proofs.tables.field.Statement.{statement}
 use Rattle.table_readers.proofs.tables.field.Tie as tie
 use Rattle.table_readers.proofs.tables.field.Reads as reads
@@ -20,11 +20,11 @@ field-in-requires : tie.Need-field-in-requires
 field-in-requires c κs = search laws
 
 returns : tie.Need-returns
-unfolding fieldOf
+unfolding fieldNumber
 returns c = search laws
 
 returns-2 : tie.Need-returns-2
-unfolding fieldOf
+unfolding fieldNumber
 returns-2 c = search laws
 
 pub field-spec : {M : Type 1} → statement M

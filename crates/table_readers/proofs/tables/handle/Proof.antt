@@ -1,5 +1,5 @@
 use Rattle.table_readers.proofs.TableLaws.{laws}
-use Rattle.table_readers.specs.Tables.{handleOf}
+use Rattle.table_readers.specs.Tables.{handleNumber}
 use Rattle.table_readers.proofs.tables.handle.Statement.{statement}
 use Rattle.table_readers.proofs.tables.handle.Tie as tie
 use Rattle.table_readers.proofs.tables.handle.Reads as reads
@@ -20,11 +20,11 @@ handle-in-requires : tie.Need-handle-in-requires
 handle-in-requires c κs = search laws
 
 returns : tie.Need-returns
-unfolding handleOf
+unfolding handleNumber
 returns c = search laws
 
 returns-2 : tie.Need-returns-2
-unfolding handleOf
+unfolding handleNumber
 returns-2 c = search laws
 
 pub handle-spec : {M : Type 1} → statement M

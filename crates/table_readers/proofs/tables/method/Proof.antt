@@ -1,5 +1,5 @@
 use Rattle.table_readers.proofs.TableLaws.{laws}
-use Rattle.table_readers.specs.Tables.{methodOf}
+use Rattle.table_readers.specs.Tables.{methodNumber}
 use Rattle.table_readers.proofs.tables.method.Statement.{statement}
 use Rattle.table_readers.proofs.tables.method.Tie as tie
 use Rattle.table_readers.proofs.tables.method.Reads as reads
@@ -20,11 +20,11 @@ method-in-requires : tie.Need-method-in-requires
 method-in-requires c κs = search laws
 
 returns : tie.Need-returns
-unfolding methodOf
+unfolding methodNumber
 returns c = search laws
 
 returns-2 : tie.Need-returns-2
-unfolding methodOf
+unfolding methodNumber
 returns-2 c = search laws
 
 pub method-spec : {M : Type 1} → statement M

@@ -1,5 +1,5 @@
 use Rattle.table_readers.proofs.TableLaws.{laws}
-use Rattle.table_readers.specs.Tables.{protoOf}
+use Rattle.table_readers.specs.Tables.{protoNumber}
 use Rattle.table_readers.proofs.tables.proto.Statement.{statement}
 use Rattle.table_readers.proofs.tables.proto.Tie as tie
 use Rattle.table_readers.proofs.tables.proto.Reads as reads
@@ -20,11 +20,11 @@ proto-in-requires : tie.Need-proto-in-requires
 proto-in-requires c κs = search laws
 
 returns : tie.Need-returns
-unfolding protoOf
+unfolding protoNumber
 returns c = search laws
 
 returns-2 : tie.Need-returns-2
-unfolding protoOf
+unfolding protoNumber
 returns-2 c = search laws
 
 pub proto-spec : {M : Type 1} → statement M

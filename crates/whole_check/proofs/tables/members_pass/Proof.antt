@@ -1,5 +1,5 @@
 use Rattle.whole_check.proofs.TableLaws.{Counting, counting as laws}
-use Rattle.ids.specs.Records.{memberAt}
+use Rattle.ids.specs.Records.{memberIdAt}
 use Rattle.whole_check.proofs.tables.members_pass.Statement.{statement}
 use Rattle.whole_check.proofs.tables.members_pass.Tie as tie
 use Rattle.whole_check.proofs.tables.members_pass.Reads as reads
@@ -7,7 +7,7 @@ use Rattle.whole_check.proofs.tables.members_pass.Lts as lts
 use Rattle.ids.proofs.check_member.Reads as check-member-reads
 
 abbrev Inv-loop : tie.InvT-loop
-Inv-loop f r kinds offset count k₀ left₀ k left = Counting (memberAt f r kinds offset) count left k
+Inv-loop f r kinds offset count k₀ left₀ k left = Counting (memberIdAt f r kinds offset) count left k
 
 abbrev μ-loop : tie.MeasureT-loop
 μ-loop f r kinds offset count k₀ left₀ k left = left
