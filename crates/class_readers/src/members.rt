@@ -1,7 +1,7 @@
 // Class data, and its members by list and number.
-use super::MaybeCount;
-use super::MaybeData;
-use super::MaybeMember;
+use super::MaybeCountAnswer;
+use super::MaybeDataAnswer;
+use super::MaybeMemberAnswer;
 use super::Spot;
 use super::SpotAnswer;
 use access_flags::FlagsAnswer;

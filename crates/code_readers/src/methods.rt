@@ -1,8 +1,8 @@
 // The code of a method: its sizes and counts, its units, its tries and handlers.
-use super::MaybeCode;
-use super::MaybeHandler;
-use super::MaybePair;
-use super::MaybeTry;
+use super::MaybeCodeAnswer;
+use super::MaybeHandlerAnswer;
+use super::MaybePairAnswer;
+use super::MaybeTryAnswer;
 use class_readers::MaybeCountAnswer;
 use class_readers::Spot;
 use class_readers::SpotAnswer;

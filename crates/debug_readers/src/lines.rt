@@ -1,6 +1,6 @@
 // The debug information of a method's code.
-use super::MaybeDebug;
-use super::MaybeName;
+use super::MaybeDebugAnswer;
+use super::MaybeNameAnswer;
 use class_readers::Spot;
 use class_readers::SpotAnswer;
 use debug_info::DebugAnswer;

@@ -1,6 +1,6 @@
 // What the header and the map say.
 use super::CountAnswer;
-use super::EntryAnswer;
+use super::MapEntryAnswer;
 use super::Opened;
 use super::OpenedAnswer;
 use header::Header;

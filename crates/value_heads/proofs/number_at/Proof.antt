@@ -3,7 +3,7 @@ use Rattle.value_heads.proofs.number_at.Statement.{statement}
 use Rattle.value_heads.proofs.number_at.Tie as tie
 use Rattle.value_heads.proofs.number_at.Reads as reads
 use Rattle.value_heads.proofs.number_at.Lts as lts
-use Rattle.value_heads.proofs.has_room.Reads as has-room-reads
+use Rattle.word.proofs.has_room.Reads as has-room-reads
 use Rattle.value_heads.proofs.joined.Reads as joined-reads
 use Rattle.value_heads.proofs.size_of.Reads as size-of-reads
 
