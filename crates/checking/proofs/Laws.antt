@@ -16,7 +16,8 @@ use Rattle.header.specs.declared.Header.{Header}
 use Rattle.verdict.specs.declared.Verdict.{Verdict}
 use Rattle.verdict.specs.Answers.{verdict-outcome}
 use Rattle.file_report.specs.Input.{inputAt}
-use Rattle.checking.specs.Status.{status, Comes, said, unsaid}
+use Rattle.named_report.specs.Output.{status}
+use Rattle.checking.specs.Status.{Comes, said, unsaid}
 
 -- of the output as it is afterwards
 pub within : (x : ReportAnswer) (text before after : List ℕ) (k : ℕ) → report-outcome x ≡ written text (length before) → x ≡ R.the-variants.Got k → length after ≡ length before → k ≤ length after

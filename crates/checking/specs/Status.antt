@@ -2,14 +2,8 @@
 use Prim.Native.Nat.{ℕ, _+_, _≤_, min}
 use mathlib.Core.Path.{_≡_}
 use mathlib.Core.List.{List}
-use Rattle.refusal.specs.Outcome.{Outcome, answer, refused}
-use Rattle.header.specs.declared.Header.{Header}
 use Rattle.file_report.specs.Input.{inputAt}
-
--- an input that was read, by its verdict
-abbrev pub status : Outcome Header → ℕ
-status (answer h) = 0
-status (refused r) = 1
+use Rattle.named_report.specs.Output.{status}
 
 -- the exit status as an ASCII digit: 2 stands for what was not read and for what was not written
 abbrev pub digit : ℕ → ℕ

@@ -1,15 +1,13 @@
 // What the programs do: read an input whole, have it checked, write its report, and tell what it all came to. What is read and written no contract can say.
 use report::ReportAnswer;
-use verdict::Verdict;
 ghost use mathlib.Core.Path.{_≡_};
 ghost use Prim.Native.Nat.{_≤_, max};
-ghost use Rattle.verdict.specs.Answers.{verdict-outcome};
-ghost use Rattle.checking.specs.Status.{status, digit, Comes};
+ghost use Rattle.checking.specs.Status.{digit, Comes};
 
 // One byte more than is taken, so that an input that is too long is known to be.
 const ROOM: usize = 65537;
 
-// Room for the line of the longest path, and for the longest report.
+// Room for the line of the longest path, 4,096 bytes and 6, and for the longest report, 288.
 const OUT: usize = 4390;
 
 // The descriptor that the exit status is written to, where it is asked for.
@@ -19,16 +17,6 @@ const STATUS_FILENO: i32 = 9;
 const UNREAD: u8 = 2;
 
 const UNWRITTEN: u8 = 3;
-
-// What an input comes to that was read.
-fn status_of(verdict: Verdict) -> u8
-    ensures { λ r. ⌜ r ≡ status (verdict-outcome verdict) ⌝ }
-{
-    match verdict {
-        Verdict::Accepted(_) => 0,
-        Verdict::Refused(_) => 1,
-    }
-}
 
 // The worse of two.
 fn worse(a: u8, b: u8) -> u8
@@ -110,7 +98,7 @@ fn check_bytes(f: &[u8], what: &[u8], name: &[u8]) -> u8
                 os::fail(b"standard output");
                 return UNWRITTEN;
             }
-            status_of(verdict)
+            named_report::status_of(verdict)
         }
         ReportAnswer::Refused(_) => complain(what, b": no room for its report\n"),
     }

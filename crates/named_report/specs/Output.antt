@@ -3,7 +3,7 @@ use Prim.Native.Nat.{ℕ}
 use mathlib.Core.Bool.{Bool, true, false, cond}
 use mathlib.Core.List.{List, [], _∷_, _++_}
 use lib.Dec.{eqb}
-use Rattle.refusal.specs.Outcome.{Outcome}
+use Rattle.refusal.specs.Outcome.{Outcome, answer, refused}
 use Rattle.header.specs.declared.Header.{Header}
 use Rattle.report.specs.Lines.{ascii, told, reportOf}
 
@@ -20,3 +20,8 @@ heading (b ∷ bs) = told (record { name = ascii "file"; value = b ∷ bs })
 -- "Standard input is checked": its report alone; of a file the line of its name, and the report
 unfoldable pub outputOf : List ℕ → Outcome Header → List ℕ
 outputOf name o = heading name ++ reportOf o
+
+-- what an input comes to that was read: 0 where it is accepted, 1 where it is refused
+abbrev pub status : Outcome Header → ℕ
+status (answer h) = 0
+status (refused r) = 1

@@ -8,7 +8,7 @@ ghost use lib.ListN.{length};
 ghost use Rattle.verdict.specs.Answers.{verdict-outcome};
 ghost use Rattle.report.specs.Stored.{Stored, written, content};
 ghost use Rattle.report.specs.Answers.{report-outcome};
-ghost use Rattle.named_report.specs.Output.{one-line, heading, outputOf};
+ghost use Rattle.named_report.specs.Output.{one-line, heading, outputOf, status};
 
 // Is a name one line? One with a line feed would be two, and the second could say what a report says.
 pub fn is_one_line(name: &[u8]) -> bool
@@ -75,5 +75,15 @@ pub fn output_into(name: &[u8], verdict: Verdict, out: &mut [u8]) -> ReportAnswe
             ReportAnswer::Got(end)
         }
         ReportAnswer::Refused(r) => ReportAnswer::Refused(r),
+    }
+}
+
+// What an input comes to that was read: 0 where it is accepted, 1 where it is refused.
+pub fn status_of(verdict: Verdict) -> u8
+    ensures { λ r. ⌜ r ≡ status (verdict-outcome verdict) ⌝ }
+{
+    match verdict {
+        Verdict::Accepted(_) => 0,
+        Verdict::Refused(_) => 1,
     }
 }

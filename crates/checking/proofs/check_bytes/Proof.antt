@@ -4,7 +4,7 @@ use Rattle.checking.proofs.check_bytes.Tie as tie
 use Rattle.checking.proofs.check_bytes.Reads as reads
 use Rattle.checking.proofs.check_bytes.Lts as lts
 use Rattle.checking.proofs.complain.Reads as complain-reads
-use Rattle.checking.proofs.status_of.Reads as status-of-reads
+use Rattle.named_report.proofs.status_of.Reads as status-of-reads
 use Rattle.file_report.proofs.input_verdict.Reads as input-verdict-reads
 use Rattle.io.proofs.write_all.Reads as write-all-reads
 use Rattle.named_report.proofs.output_into.Reads as output-into-reads
