@@ -65,7 +65,7 @@ debug-arm = arm-if debug-outcome debug-words
 pub name-arm : (x c : Name.MaybeNameAnswer) {y : List ℕ} → x ≡ c → y ≡ told-if option-words (name-outcome c) → y ≡ told-if option-words (name-outcome x)
 name-arm = arm-if name-outcome option-words
 
-pub cover-arm : (x c : CoveringTry.CoverAnswer) {y : List ℕ} → x ≡ c → y ≡ told-if number-words (cover-outcome c) → y ≡ told-if number-words (cover-outcome x)
+pub cover-arm : (x c : Cover.CoveringTryAnswer) {y : List ℕ} → x ≡ c → y ≡ told-if number-words (cover-outcome c) → y ≡ told-if number-words (cover-outcome x)
 cover-arm = arm-if cover-outcome number-words
 
 pub checked-arm : (x c : Checked.CheckAnswer) {y : List ℕ} → x ≡ c → y ≡ told no-words (checked-outcome c) → y ≡ told no-words (checked-outcome x)

@@ -4,7 +4,7 @@ use mathlib.Core.Bool.{Bool, cond}
 use mathlib.Core.Option.{Option, none, some}
 use mathlib.Core.List.{List}
 use lib.Dec.{ltb}
-use Rattle.refusal.specs.Outcome.{Outcome, _>>=_, accepted}
+use Rattle.refusal.specs.Outcome.{Outcome, answer, _>>=_, accepted}
 use Rattle.refusal.specs.Rows.{every, follows}
 use Rattle.frame.specs.declared.Frame.{Frame}
 use Rattle.header.specs.declared.Header.{Header}

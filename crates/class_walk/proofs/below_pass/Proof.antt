@@ -5,7 +5,7 @@ use Rattle.class_walk.proofs.below_pass.Tie as tie
 use Rattle.class_walk.proofs.below_pass.Reads as reads
 use Rattle.class_walk.proofs.below_pass.Lts as lts
 use Rattle.class_walk.proofs.annotations_below.Reads as annotations-below-reads
-use Rattle.class_walk.proofs.check_types.Reads as check-types-reads
+use Rattle.type_list.proofs.check_types.Reads as check-types-reads
 use Rattle.class_walk.proofs.data_below.Reads as data-below-reads
 use Rattle.class_walk.proofs.values_below.Reads as values-below-reads
 
