@@ -1,30 +1,34 @@
-// Kinds 6 and 7: what is written to a lent output. A part of the output is lent, then all of it is written.
+// Kinds 6 and 7: what is written to a lent output. As much of it is lent as number d says, then all of it is written.
 use super::numbers;
-use super::printing;
+use asking::Question;
 use word::Endian;
 
-pub(crate) fn flags(value: u32, class: bool, out: &mut [u8], room: usize, mask: u32) {
+fn flags(q: Question, out: &mut [u8]) {
+    let room = q.d as usize;
     if out.len() < room {
         return;
     }
-    let got = access_flags::flags_into(value, class, &mut out[..room]);
-    printing::words(answer_rows::flags_row(got), mask);
-    printing::bytes(out);
+    let got = access_flags::flags_into(q.a, q.b == 1, &mut out[..room]);
+    asking::write_words(answer_rows::flags_row(got), q.mask);
+    asking::write_bytes(out);
 }
 
-pub(crate) fn units(
-    s: &[u8],
-    order: Endian,
-    start: usize,
-    count: u32,
-    out: &mut [u16],
-    room: usize,
-    mask: u32,
-) {
+fn units(s: &[u8], order: Endian, q: Question, out: &mut [u16]) {
+    let room = q.d as usize;
     if out.len() < room {
         return;
     }
-    let got = code_units::units_into(s, order, start, count, &mut out[..room]);
-    printing::words(numbers::written_row(got), mask);
-    printing::units(out);
+    let got = code_units::units_into(s, order, q.a as usize, q.b, &mut out[..room]);
+    asking::write_words(numbers::written_row(got), q.mask);
+    asking::write_units(out);
+}
+
+pub(crate) fn output(s: &[u8], order: Endian, q: Question) {
+    let mut bytes = [77u8; 18];
+    let mut code = [77u16; 8];
+    if q.reader == 6 {
+        flags(q, &mut bytes);
+    } else {
+        units(s, order, q, &mut code);
+    }
 }

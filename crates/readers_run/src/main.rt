@@ -6,40 +6,16 @@ mod heads;
 mod items;
 mod notes;
 mod outputs;
-mod printing;
 mod questions;
 mod tables;
 mod values;
 
-use word::Endian;
-
-// What follows a file's head, into a room that has place for it.
-fn rest_of(room: &mut [u8], size: usize, label: u16, length: u16) {
-    if room.len() < size {
-        return;
-    }
-    io::read_full(0, &mut room[..size]);
-    questions::about(room, size, label, length);
-}
-
-// The length of what follows, of a label and of a file.
-fn one_file() {
-    let mut head = [0u8; 8];
-    io::read_full(0, &mut head);
-    let size = word::u32_at(&head, 0, Endian::Little) as usize;
-    let label = word::u16_at(&head, 4, Endian::Little);
-    let length = word::u16_at(&head, 6, Endian::Little);
-    let mut room = io::large_buffer();
-    rest_of(&mut room, size, label, length);
-}
-
-// How many files there are, then each.
+// Each question about each file. A file with its questions is read at a time.
 fn main() {
-    let mut count = [0u8; 4];
-    io::read_full(0, &mut count);
-    let mut left = word::u32_at(&count, 0, Endian::Little);
-    while 0 < left {
-        one_file();
-        left -= 1;
+    let mut room = io::large_buffer();
+    let mut turn = asking::first(&mut room, 0);
+    while turn.at < turn.end {
+        questions::answer(asking::bytes_of(&room, turn), asking::asked_of(&room, turn));
+        turn = asking::next(&mut room, turn, 0);
     }
 }

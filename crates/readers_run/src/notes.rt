@@ -1,4 +1,6 @@
 // Readers 32 to 36: the annotation directory of class a and its entries; 40 to 47: the annotations of a set.
+use asking::Question;
+
 pub(crate) fn row(f: &[u8], reader: u8, a: u32, b: u32) -> [u64; 20] {
     if reader == 33 {
         return answer_rows::place_row(dex::field_entry(f, a, b));
@@ -30,15 +32,16 @@ pub(crate) fn count_row(f: &[u8], reader: u8, a: u32, b: u32, c: u32) -> [u64; 2
 }
 
 // Where annotation d is, of the class (0), of entry b of its fields (1) or methods (2), of parameter c of entry b (3).
-pub(crate) fn place_row(f: &[u8], of: u8, a: u32, b: u32, c: u32, d: u32) -> [u64; 20] {
+pub(crate) fn place_row(f: &[u8], q: Question) -> [u64; 20] {
+    let of = q.reader % 4;
     if of == 1 {
-        return answer_rows::word_row(dex::field_annotation_place(f, a, b, d));
+        return answer_rows::word_row(dex::field_annotation_place(f, q.a, q.b, q.d));
     }
     if of == 2 {
-        return answer_rows::word_row(dex::method_annotation_place(f, a, b, d));
+        return answer_rows::word_row(dex::method_annotation_place(f, q.a, q.b, q.d));
     }
     if of == 3 {
-        return answer_rows::word_row(dex::parameter_annotation_place(f, a, b, c, d));
+        return answer_rows::word_row(dex::parameter_annotation_place(f, q.a, q.b, q.c, q.d));
     }
-    answer_rows::word_row(dex::class_annotation_place(f, a, d))
+    answer_rows::word_row(dex::class_annotation_place(f, q.a, q.d))
 }

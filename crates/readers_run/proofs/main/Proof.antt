@@ -1,38 +1,56 @@
-use Rattle.readers_run.proofs.Laws.{laws}
+use mathlib.Core.Path.{_≡_}
+use lib.ListN.{length}
+use Rattle.asking.specs.Turns.{to-go}
+use Rattle.asking.proofs.Laws.{laws}
 use Rattle.readers_run.proofs.main.Statement.{statement}
 use Rattle.readers_run.proofs.main.Tie as tie
 use Rattle.readers_run.proofs.main.Reads as reads
 use Rattle.readers_run.proofs.main.Lts as lts
-use Rattle.io.proofs.read_full.Reads as read-full-reads
-use Rattle.readers_run.proofs.one_file.Reads as one-file-reads
-use Rattle.word.proofs.u32_at.Reads as u32-at-reads
+use Rattle.asking.proofs.asked_of.Reads as asked-of-reads
+use Rattle.asking.proofs.bytes_of.Reads as bytes-of-reads
+use Rattle.asking.proofs.first.Reads as first-reads
+use Rattle.asking.proofs.next.Reads as next-reads
+use Rattle.io.proofs.large_buffer.Reads as large-buffer-reads
+use Rattle.readers_run.proofs.questions.answer.Reads as answer-reads
 
 abbrev Inv-loop : tie.InvT-loop
-Inv-loop left₀ left = Unit
+Inv-loop room₀ turn₀ room turn = 65536 ≡ length room
 
 abbrev μ-loop : tie.MeasureT-loop
-μ-loop left₀ left = left
+μ-loop room₀ turn₀ room turn = to-go turn
 
-slice-aggregate-read-full : tie.Need-slice-aggregate-read-full Inv-loop μ-loop
-slice-aggregate-read-full c = search laws
+large-buffer-requires : tie.Need-large-buffer-requires Inv-loop μ-loop
+large-buffer-requires c κs = search laws
 
-read-full-requires : tie.Need-read-full-requires Inv-loop μ-loop
-read-full-requires c κs = search laws
+slice-aggregate-first : tie.Need-slice-aggregate-first Inv-loop μ-loop
+slice-aggregate-first c = search laws
 
-slice-aggregate-u32-at : tie.Need-slice-aggregate-u32-at Inv-loop μ-loop
-slice-aggregate-u32-at c = search laws
-
-u32-at-requires : tie.Need-u32-at-requires Inv-loop μ-loop
-u32-at-requires c κs = search laws
+first-requires : tie.Need-first-requires Inv-loop μ-loop
+first-requires c κs = search laws
 
 loop-holds : tie.Need-loop-holds Inv-loop μ-loop
 loop-holds c = search laws
 
-one-file-requires : tie.Need-one-file-requires Inv-loop μ-loop
-one-file-requires c κs = search laws
+slice-aggregate-bytes-of : tie.Need-slice-aggregate-bytes-of Inv-loop μ-loop
+slice-aggregate-bytes-of c = search laws
 
-sub-left : tie.Need-sub-left Inv-loop μ-loop
-sub-left c = search laws
+bytes-of-requires : tie.Need-bytes-of-requires Inv-loop μ-loop
+bytes-of-requires c κs = search laws
+
+slice-aggregate-asked-of : tie.Need-slice-aggregate-asked-of Inv-loop μ-loop
+slice-aggregate-asked-of c = search laws
+
+asked-of-requires : tie.Need-asked-of-requires Inv-loop μ-loop
+asked-of-requires c κs = search laws
+
+answer-requires : tie.Need-answer-requires Inv-loop μ-loop
+answer-requires c κs = search laws
+
+slice-aggregate-next : tie.Need-slice-aggregate-next Inv-loop μ-loop
+slice-aggregate-next c = search laws
+
+next-requires : tie.Need-next-requires Inv-loop μ-loop
+next-requires c κs = search laws
 
 loop-less : tie.Need-loop-less Inv-loop μ-loop
 loop-less c = search laws
@@ -49,13 +67,17 @@ main-spec =
     (tie.spec
     Inv-loop
     μ-loop
-    slice-aggregate-read-full
-    read-full-requires
-    slice-aggregate-u32-at
-    u32-at-requires
+    large-buffer-requires
+    slice-aggregate-first
+    first-requires
     loop-holds
-    one-file-requires
-    sub-left
+    slice-aggregate-bytes-of
+    bytes-of-requires
+    slice-aggregate-asked-of
+    asked-of-requires
+    answer-requires
+    slice-aggregate-next
+    next-requires
     loop-less
     loop-again
     returns)

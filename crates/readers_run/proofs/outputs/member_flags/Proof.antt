@@ -1,12 +1,15 @@
-use Rattle.readers_run.proofs.Laws.{laws}
+use Rattle.asking.proofs.Laws.{laws}
 use Rattle.readers_run.proofs.outputs.member_flags.Statement.{statement}
 use Rattle.readers_run.proofs.outputs.member_flags.Tie as tie
 use Rattle.readers_run.proofs.outputs.member_flags.Reads as reads
 use Rattle.readers_run.proofs.outputs.member_flags.Lts as lts
 use Rattle.answer_rows.proofs.written_row.Reads as written-row-reads
+use Rattle.asking.proofs.write_bytes.Reads as write-bytes-reads
+use Rattle.asking.proofs.write_words.Reads as write-words-reads
 use Rattle.class_readers.proofs.member_flags.Reads as member-flags-reads
-use Rattle.readers_run.proofs.printing.bytes.Reads as bytes-reads
-use Rattle.readers_run.proofs.printing.words.Reads as words-reads
+
+cast-room : tie.Need-cast-room
+cast-room c = search laws
 
 returns : tie.Need-returns
 returns c = search laws
@@ -23,11 +26,11 @@ member-flags-requires c κs = search laws
 written-row-requires : tie.Need-written-row-requires
 written-row-requires c κs = search laws
 
-words-requires : tie.Need-words-requires
-words-requires c κs = search laws
+write-words-requires : tie.Need-write-words-requires
+write-words-requires c κs = search laws
 
-bytes-requires : tie.Need-bytes-requires
-bytes-requires c κs = search laws
+write-bytes-requires : tie.Need-write-bytes-requires
+write-bytes-requires c κs = search laws
 
 same-length : tie.Need-same-length
 same-length c = search laws
@@ -39,12 +42,13 @@ pub member-flags-spec : {M : Type 1} → statement M
 member-flags-spec =
     tie.close
     (tie.spec
+    cast-room
     returns
     slice-relend-prefix-member-flags
     slice-aggregate-member-flags
     member-flags-requires
     written-row-requires
-    words-requires
-    bytes-requires
+    write-words-requires
+    write-bytes-requires
     same-length
     returns-2)

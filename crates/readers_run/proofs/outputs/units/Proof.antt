@@ -1,12 +1,15 @@
-use Rattle.readers_run.proofs.Laws.{laws}
+use Rattle.asking.proofs.Laws.{laws}
 use Rattle.readers_run.proofs.outputs.units.Statement.{statement}
 use Rattle.readers_run.proofs.outputs.units.Tie as tie
 use Rattle.readers_run.proofs.outputs.units.Reads as reads
 use Rattle.readers_run.proofs.outputs.units.Lts as lts
 use Rattle.answer_rows.proofs.written_row.Reads as written-row-reads
-use Rattle.code_readers.proofs.units.Reads as methods-units-reads
-use Rattle.readers_run.proofs.printing.units.Reads as printing-units-reads
-use Rattle.readers_run.proofs.printing.words.Reads as words-reads
+use Rattle.asking.proofs.write_units.Reads as write-units-reads
+use Rattle.asking.proofs.write_words.Reads as write-words-reads
+use Rattle.code_readers.proofs.units.Reads as units-reads
+
+cast-room : tie.Need-cast-room
+cast-room c = search laws
 
 returns : tie.Need-returns
 returns c = search laws
@@ -23,11 +26,11 @@ units-requires c κs = search laws
 written-row-requires : tie.Need-written-row-requires
 written-row-requires c κs = search laws
 
-words-requires : tie.Need-words-requires
-words-requires c κs = search laws
+write-words-requires : tie.Need-write-words-requires
+write-words-requires c κs = search laws
 
-units-requires-2 : tie.Need-units-requires-2
-units-requires-2 c κs = search laws
+write-units-requires : tie.Need-write-units-requires
+write-units-requires c κs = search laws
 
 same-length : tie.Need-same-length
 same-length c = search laws
@@ -39,12 +42,13 @@ pub units-spec : {M : Type 1} → statement M
 units-spec =
     tie.close
     (tie.spec
+    cast-room
     returns
     slice-relend-prefix-units
     slice-aggregate-units
     units-requires
     written-row-requires
-    words-requires
-    units-requires-2
+    write-words-requires
+    write-units-requires
     same-length
     returns-2)

@@ -1,0 +1,3 @@
+pub mod Laws
+mod LineLaws
+mod QuestionLaws

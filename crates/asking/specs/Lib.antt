@@ -1,0 +1,3 @@
+pub mod Questions
+pub mod Turns
+pub mod Lines
