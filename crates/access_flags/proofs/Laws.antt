@@ -13,6 +13,7 @@ use native.Mathlib.Numerals.{add-one}
 use native.Mathlib.Omega.{arith}
 use mir.Syntax.{w8, w64}
 use mir.Val.{Fits}
+use Rattle.refusal.specs.Refusals.{no-room}
 use Rattle.refusal.specs.Outcome.{Outcome, answer, refused, _>>=_}
 use Rattle.refusal.proofs.Laws.{said, passes, fails}
 use Rattle.access_flags.specs.declared.FlagsAnswer.{FlagsAnswer}
@@ -138,7 +139,7 @@ module _ {class : Bool} {value : ℕ} {out₀ out : List ℕ} {p i v left : ℕ}
 
 -- ---- the writer's two ways
 module _ (class : Bool) (value : ℕ) (out : List ℕ) {n : ℕ} (e : n ≡ length (flags class value)) where
-  pub short-answer : length out < n → refused (record { number = 19; place = 0 }) ≡ written class value (length out)
+  pub short-answer : length out < n → refused no-room ≡ written class value (length out)
   unfolding written
   short-answer h = fails _ (lt-leb (length (flags class value)) (length out) (let z = e in omega arith))
 
@@ -151,7 +152,7 @@ module _ (class : Bool) (value : ℕ) (out : List ℕ) {n : ℕ} (e : n ≡ leng
 
   pub whole-answer : n ≤ length out → answer n ≡ written class value (length out)
   unfolding written
-  whole-answer h = passes 19 0 (le-leb (length (flags class value)) (length out) (let z = e in omega arith)) (ap answer e)
+  whole-answer h = passes no-room (le-leb (length (flags class value)) (length out) (let z = e in omega arith)) (ap answer e)
 
   pub whole-content : {l : List ℕ} → n ≤ length out → l ≡ filled (flags class value) out → l ≡ content class value out
   unfolding content

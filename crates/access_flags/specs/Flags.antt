@@ -4,6 +4,7 @@ use mathlib.Core.Bool.{Bool, cond, not, _&&_, _||_}
 use mathlib.Core.List.{List, [], _∷_, _++_}
 use lib.ListN.{length, drop}
 use lib.Dec.{leb, eqb}
+use Rattle.refusal.specs.Refusals.{no-room}
 use Rattle.refusal.specs.Outcome.{Outcome, answer, given}
 
 -- is bit i, the lowest of v, handed out
@@ -28,7 +29,7 @@ filled vs out = vs ++ drop (length vs) out
 
 -- "19: a lent output is shorter than the whole answer"
 unfoldable pub written : Bool → ℕ → ℕ → Outcome ℕ
-written class value room = given (leb (length (flags class value)) room) 19 0 (answer (length (flags class value)))
+written class value room = given (leb (length (flags class value)) room) no-room (answer (length (flags class value)))
 
 -- "Refusals change no lent byte .. Success writes the answer's places and no others."
 unfoldable pub content : Bool → ℕ → List ℕ → List ℕ

@@ -6,6 +6,7 @@ use mathlib.Core.Bool.{true}
 use mathlib.Core.List.{List}
 use lib.ListN.{length}
 use native.Mathlib.Omega.{arith}
+use Rattle.refusal.specs.Refusals.{wrong-index, wrong-offset}
 use Rattle.refusal.specs.Rows.{Found}
 use Rattle.refusal.specs.Exact.{Exact}
 use Rattle.refusal.proofs.Exact.{same, answer-exact, given-exact, bind-exact, exact-iff, below}
@@ -43,7 +44,7 @@ module _ (s : List ℕ) (f : Frame) (item : ℕ) where
   unfolding headAt Raw
   head-exact =
       exact-iff (bind-exact (Stands s f item) (λ (set : ℕ) (h : DirectoryHead). AllowedOrAbsent (f .start) (length s) true set × Counts set h) (word-exact s f item item)
-      (λ set. given-exact 8 item (or-absent-decides (f .start) (length s) true set) (counts-exact set)))
+      (λ set. given-exact (wrong-offset item) (or-absent-decides (f .start) (length s) true set) (counts-exact set)))
       (λ h p. there (p .0) h (p .1))
       (λ h p. (
         h .set,
@@ -84,7 +85,7 @@ module _ (s : List ℕ) (f : Frame) (item : ℕ) where
   entry-exact limit p =
       let i = u32At (f .order) s p in
       let o = u32At (f .order) s (p + 4) in
-      exact-iff (given-exact 11 item (below i limit) (given-exact 8 item (allowed-decides (f .start) (length s) true o) (answer-exact (record { index = i; offset = o }))))
+      exact-iff (given-exact (wrong-index item) (below i limit) (given-exact (wrong-offset item) (allowed-decides (f .start) (length s) true o) (answer-exact (record { index = i; offset = o }))))
       (λ e h. subst (DirectoryEntryRule s f item limit p) (h .1 .1) (record { index = refl; offset = refl; below = h .0; allows = h .1 .0 }))
       (λ e h. (
         subst (λ (x : ℕ). x < limit) (sym (h .index)) (h .below),

@@ -4,6 +4,7 @@ use Prim.Native.Nat.{ℕ, _≤_}
 use mathlib.Core.Path.{_≡_, _∙_}
 use mathlib.Core.List.{List}
 use lib.ListN.{length}
+use Rattle.refusal.specs.Refusals.{not-there}
 use Rattle.refusal.specs.Outcome.{answer, refused}
 use Rattle.refusal.specs.Exact.{At}
 use Rattle.refusal.proofs.Laws.{bind-answer}
@@ -23,6 +24,6 @@ module _ (s : List ℕ) (f : Frame) (item : ℕ) (d : Directory) (h : DirectoryR
   unfolding directoryEntry
   entries-kth list k e m = bind-answer _ (directory-exact s f item .complete d h) ∙ pick-there m
 
-  pub entries-past : (list k : ℕ) → length (listOf d list) ≤ k → directoryEntry s f item list k ≡ refused (record { number = 7; place = 0 })
+  pub entries-past : (list k : ℕ) → length (listOf d list) ≤ k → directoryEntry s f item list k ≡ refused not-there
   unfolding directoryEntry
   entries-past list k p = bind-answer _ (directory-exact s f item .complete d h) ∙ pick-none (listOf d list) k p

@@ -10,6 +10,7 @@ use borrow.Author.Needs.{needs}
 use native.Mathlib.Omega.{arith}
 use mir.Syntax.{w64}
 use mir.Val.{Fits}
+use Rattle.refusal.specs.Refusals.{not-there, runs-past}
 use Rattle.refusal.specs.declared.Refusal.{Refusal}
 use Rattle.refusal.specs.Outcome.{Outcome, answer, refused, _>>=_, accepted}
 use Rattle.refusal.specs.Rows.{Found, past}
@@ -79,13 +80,13 @@ module _ {entry : ℕ → Outcome DirectoryEntry} {s : List ℕ} {width from cou
 
 -- ---- one of the three lists
 module _ (s : List ℕ) (f : Frame) (item limit from count : ℕ) {b : Bool} (room : b ≡ leb (from + 8 * count) (length s)) where
-  pub list-long : b ≡ false → refused (record { number = 9; place = item }) ≡ listPast s f item limit from count
+  pub list-long : b ≡ false → refused (runs-past item) ≡ listPast s f item limit from count
   unfolding listAt fixedAt
   list-long q = sym (bind-refused past (bind-refused _ (sym (fails _ (sym room ∙ q)))))
 
   entered : b ≡ true → fixedAt s item (entryAt s f item limit) 8 from count ≡ entriesFrom (entryAt s f item limit) 8 from count
   unfolding fixedAt
-  entered q = sym (passes 9 item (sym room ∙ q) refl)
+  entered q = sym (passes (runs-past item) (sym room ∙ q) refl)
 
   module _ (q : b ≡ true) {y : CheckAnswer} (g : checked-outcome y ≡ entriesPass s f item limit from count) where
     pub list-stop : {r : Refusal} → y ≡ C.Refused r → refused r ≡ listPast s f item limit from count
@@ -191,7 +192,7 @@ module _ (s : List ℕ) (f : Frame) (item : ℕ) where
             (one-list (whole .0) obeys list)
 
         module _ {n : ℕ} (size : n ≡ countOf h list) where
-          pub entry-none : n ≤ k → refused (record { number = 7; place = 0 }) ≡ directoryEntry s f item list k
+          pub entry-none : n ≤ k → refused not-there ≡ directoryEntry s f item list k
           unfolding directoryEntry
           entry-none q = let z = rule .entries .count in sym (bind-answer _ (whole .1 .0) ∙ pick-none (listOf (whole .0) list) k (omega arith))
 

@@ -4,6 +4,7 @@ use mathlib.Core.Bool.{true, cond}
 use mathlib.Core.List.{List, []}
 use lib.ListN.{length}
 use lib.Dec.{ltb, eqb}
+use Rattle.refusal.specs.Refusals.{wrong-index, wrong-offset}
 use Rattle.refusal.specs.Outcome.{Outcome, answer, _>>=_, given, accepted}
 use Rattle.refusal.specs.Rows.{Found, past}
 use Rattle.word.specs.Words.{u32At}
@@ -26,30 +27,30 @@ pub record Directory : Type 0 where
   pub methods : List DirectoryEntry
   pub parameters : List DirectoryEntry
 
-module _ (s : List ℕ) (f : Frame) (item : ℕ) where
+module _ (s : List ℕ) (frame : Frame) (item : ℕ) where
   -- a field that is there and wrong (8) comes before a later field that is missing (9)
   unfoldable pub countsAt : ℕ → Outcome DirectoryHead
   countsAt set = do
-    fields ← wordAt s f item (item + 4)
-    methods ← wordAt s f item (item + 8)
-    parameters ← wordAt s f item (item + 12)
+    fields ← wordAt s frame item (item + 4)
+    methods ← wordAt s frame item (item + 8)
+    parameters ← wordAt s frame item (item + 12)
     answer (record { set = set; fields = fields; methods = methods; parameters = parameters })
 
   unfoldable pub headAt : Outcome DirectoryHead
   headAt = do
-    set ← wordAt s f item item
-    given (allowedOrAbsent (f .start) (length s) true set) 8 item (countsAt set)
+    set ← wordAt s frame item item
+    given (allowedOrAbsent (frame .start) (length s) true set) (wrong-offset item) (countsAt set)
 
   -- an entry whose index is below a limit: its index (11), then its offset (8)
   module _ (limit : ℕ) where
     unfoldable pub entryOf : ℕ → ℕ → Outcome DirectoryEntry
     entryOf index offset =
-        given (ltb index limit) 11 item
-        (given (allowed (f .start) (length s) true offset) 8 item
+        given (ltb index limit) (wrong-index item)
+        (given (allowed (frame .start) (length s) true offset) (wrong-offset item)
         (answer (record { index = index; offset = offset })))
 
     unfoldable pub entryAt : ℕ → Outcome DirectoryEntry
-    entryAt p = entryOf (u32At (f .order) s p) (u32At (f .order) s (p + 4))
+    entryAt p = entryOf (u32At (frame .order) s p) (u32At (frame .order) s (p + 4))
 
     -- one of the three lists, and where it ends
     unfoldable pub listAt : ℕ → ℕ → Outcome (Found (List DirectoryEntry) ℕ)
@@ -66,23 +67,23 @@ module _ (s : List ℕ) (f : Frame) (item : ℕ) where
 
 -- the three lists behind the head: "that list's length (9), then its entries". A parameter entry's index is a method
 unfoldable pub listsAt : List ℕ → Frame → ℕ → DirectoryHead → Outcome Directory
-listsAt s f item h = do
-  fields ← listAt s f item (f .fields) (item + 16) (h .fields)
-  methods ← listAt s f item (f .methods) (fields .next) (h .methods)
-  parameters ← listAt s f item (f .methods) (methods .next) (h .parameters)
+listsAt s frame item h = do
+  fields ← listAt s frame item (frame .fields) (item + 16) (h .fields)
+  methods ← listAt s frame item (frame .methods) (fields .next) (h .methods)
+  parameters ← listAt s frame item (frame .methods) (methods .next) (h .parameters)
   answer (record { head = h; fields = fields .item; methods = methods .item; parameters = parameters .item })
 
 unfoldable pub directoryAt : List ℕ → Frame → ℕ → Outcome Directory
-directoryAt s f item = headAt s f item >>= listsAt s f item
+directoryAt s frame item = headAt s frame item >>= listsAt s frame item
 
 -- a stage of the code: the three lists
 abbrev pub listsPass : List ℕ → Frame → ℕ → DirectoryHead → Outcome Unit
-listsPass s f item h = listsAt s f item h >>= accepted
+listsPass s frame item h = listsAt s frame item h >>= accepted
 
 -- what code keeps: the head, or entry k of list 0, 1 or 2
 unfoldable pub directoryHead : List ℕ → Frame → ℕ → Outcome DirectoryHead
-directoryHead s f item = do
-  d ← directoryAt s f item
+directoryHead s frame item = do
+  d ← directoryAt s frame item
   answer (d .head)
 
 unfoldable pub listOf : Directory → ℕ → List DirectoryEntry
@@ -92,8 +93,8 @@ listOf d list =
     (cond (eqb list 2) (d .parameters) []))
 
 unfoldable pub directoryEntry : List ℕ → Frame → ℕ → ℕ → ℕ → Outcome DirectoryEntry
-directoryEntry s f item list k = do
-  d ← directoryAt s f item
+directoryEntry s frame item list k = do
+  d ← directoryAt s frame item
   pick k (listOf d list)
 
 -- stages of the code: how many entries a list has, how many stand before it, and what its indices are tested by
@@ -110,4 +111,4 @@ beforeOf h list =
     (h .fields + h .methods))
 
 unfoldable pub limitOf : Frame → ℕ → ℕ
-limitOf f list = cond (eqb list 0) (f .fields) (f .methods)
+limitOf frame list = cond (eqb list 0) (frame .fields) (frame .methods)

@@ -34,15 +34,15 @@ pub enum DirectoryHeadAnswer {
 }
 
 // The three counts behind the class annotations' offset.
-fn counts_at(s: &[u8], f: Frame, item: usize, set: u32) -> DirectoryHeadAnswer
+fn counts_at(s: &[u8], frame: Frame, item: usize, set: u32) -> DirectoryHeadAnswer
     requires { ⌜ item + 4 ≤ length (now s) ⌝ }
-    ensures { λ r. ⌜ directory-head-outcome r ≡ countsAt (now (s .entry)) f item set ⌝ }
+    ensures { λ r. ⌜ directory-head-outcome r ≡ countsAt (now (s .entry)) frame item set ⌝ }
 {
-    match annotation_lists::word_at(s, f, item, item + 4) {
+    match annotation_lists::word_at(s, frame, item, item + 4) {
         WordAnswer::Refused(r) => DirectoryHeadAnswer::Refused(r),
-        WordAnswer::Got(fields) => match annotation_lists::word_at(s, f, item, item + 8) {
+        WordAnswer::Got(fields) => match annotation_lists::word_at(s, frame, item, item + 8) {
             WordAnswer::Refused(r) => DirectoryHeadAnswer::Refused(r),
-            WordAnswer::Got(methods) => match annotation_lists::word_at(s, f, item, item + 12) {
+            WordAnswer::Got(methods) => match annotation_lists::word_at(s, frame, item, item + 12) {
                 WordAnswer::Refused(r) => DirectoryHeadAnswer::Refused(r),
                 WordAnswer::Got(parameters) => DirectoryHeadAnswer::Got(DirectoryHead {
                     set,
@@ -56,14 +56,14 @@ fn counts_at(s: &[u8], f: Frame, item: usize, set: u32) -> DirectoryHeadAnswer
 }
 
 // The head, field by field.
-fn head_at(s: &[u8], f: Frame, item: usize) -> DirectoryHeadAnswer
-    ensures { λ r. ⌜ directory-head-outcome r ≡ headAt (now (s .entry)) f item ⌝ }
+fn head_at(s: &[u8], frame: Frame, item: usize) -> DirectoryHeadAnswer
+    ensures { λ r. ⌜ directory-head-outcome r ≡ headAt (now (s .entry)) frame item ⌝ }
 {
-    match annotation_lists::word_at(s, f, item, item) {
+    match annotation_lists::word_at(s, frame, item, item) {
         WordAnswer::Refused(r) => DirectoryHeadAnswer::Refused(r),
         WordAnswer::Got(set) => {
-            if frame::is_allowed_or_absent(f.start, s.len(), true, set as usize) {
-                return counts_at(s, f, item, set);
+            if frame::is_allowed_or_absent(frame.start, s.len(), true, set as usize) {
+                return counts_at(s, frame, item, set);
             }
             DirectoryHeadAnswer::Refused(Refusal {
                 number: 8,
@@ -74,15 +74,15 @@ fn head_at(s: &[u8], f: Frame, item: usize) -> DirectoryHeadAnswer
 }
 
 // The entry at a place: its index below a limit, then its offset.
-fn entry_at(s: &[u8], f: Frame, item: usize, limit: u32, at: usize) -> DirectoryEntryAnswer
+fn entry_at(s: &[u8], frame: Frame, item: usize, limit: u32, at: usize) -> DirectoryEntryAnswer
     requires { ⌜ at + 8 ≤ length (now s) ⌝ }
-    ensures { λ r. ⌜ directory-entry-outcome r ≡ entryAt (now (s .entry)) f item limit at ⌝ }
+    ensures { λ r. ⌜ directory-entry-outcome r ≡ entryAt (now (s .entry)) frame item limit at ⌝ }
 {
-    let order = f.order;
+    let order = frame.order;
     let index = word::u32_at(s, at, order);
     let offset = word::u32_at(s, at + 4, order);
     if index < limit {
-        if frame::is_allowed(f.start, s.len(), true, offset as usize) {
+        if frame::is_allowed(frame.start, s.len(), true, offset as usize) {
             return DirectoryEntryAnswer::Got { index, offset };
         }
         return DirectoryEntryAnswer::Refused(Refusal {
@@ -97,14 +97,21 @@ fn entry_at(s: &[u8], f: Frame, item: usize, limit: u32, at: usize) -> Directory
 }
 
 // All entries from a place on, which lie within the slice.
-fn entries_pass(s: &[u8], f: Frame, item: usize, limit: u32, from: usize, count: u32) -> CheckAnswer
+fn entries_pass(
+    s: &[u8],
+    frame: Frame,
+    item: usize,
+    limit: u32,
+    from: usize,
+    count: u32,
+) -> CheckAnswer
     requires { ⌜ from + 8 * count ≤ length (now s) ⌝ }
-    ensures { λ r. ⌜ checked-outcome r ≡ entriesPass (now (s .entry)) f item limit from count ⌝ }
+    ensures { λ r. ⌜ checked-outcome r ≡ entriesPass (now (s .entry)) frame item limit from count ⌝ }
 {
     let mut at = from;
     let mut left = count;
     while 0 < left {
-        match entry_at(s, f, item, limit, at) {
+        match entry_at(s, frame, item, limit, at) {
             DirectoryEntryAnswer::Refused(r) => {
                 return CheckAnswer::Refused(r);
             }
@@ -121,12 +128,12 @@ fn entries_pass(s: &[u8], f: Frame, item: usize, limit: u32, from: usize, count:
 }
 
 // One of the three lists, its length first: where it ends.
-fn list_past(s: &[u8], f: Frame, item: usize, limit: u32, from: usize, count: u32) -> StepAnswer
-    ensures { λ r. ⌜ step-outcome r ≡ listPast (now (s .entry)) f item limit from count ⌝ }
+fn list_past(s: &[u8], frame: Frame, item: usize, limit: u32, from: usize, count: u32) -> StepAnswer
+    ensures { λ r. ⌜ step-outcome r ≡ listPast (now (s .entry)) frame item limit from count ⌝ }
 {
     let size = 8 * count as usize;
     if word::has_room(s.len(), from, size) {
-        match entries_pass(s, f, item, limit, from, count) {
+        match entries_pass(s, frame, item, limit, from, count) {
             CheckAnswer::Refused(r) => {
                 return StepAnswer::Refused(r);
             }
@@ -142,16 +149,23 @@ fn list_past(s: &[u8], f: Frame, item: usize, limit: u32, from: usize, count: u3
 }
 
 // Fields, methods and parameters in turn.
-fn lists_pass(s: &[u8], f: Frame, item: usize, h: DirectoryHead) -> CheckAnswer
+fn lists_pass(s: &[u8], frame: Frame, item: usize, h: DirectoryHead) -> CheckAnswer
     requires { ⌜ item + 16 ≤ length (now s) ⌝ }
-    ensures { λ r. ⌜ checked-outcome r ≡ listsPass (now (s .entry)) f item h ⌝ }
+    ensures { λ r. ⌜ checked-outcome r ≡ listsPass (now (s .entry)) frame item h ⌝ }
 {
-    match list_past(s, f, item, f.fields, item + 16, h.fields) {
+    match list_past(s, frame, item, frame.fields, item + 16, h.fields) {
         StepAnswer::Refused(r) => CheckAnswer::Refused(r),
-        StepAnswer::Next(methods) => match list_past(s, f, item, f.methods, methods, h.methods) {
+        StepAnswer::Next(methods) => match list_past(
+            s,
+            frame,
+            item,
+            frame.methods,
+            methods,
+            h.methods,
+        ) {
             StepAnswer::Refused(r) => CheckAnswer::Refused(r),
             StepAnswer::Next(parameters) => {
-                match list_past(s, f, item, f.methods, parameters, h.parameters) {
+                match list_past(s, frame, item, frame.methods, parameters, h.parameters) {
                     StepAnswer::Refused(r) => CheckAnswer::Refused(r),
                     StepAnswer::Next(_) => CheckAnswer::Accepted,
                 }
@@ -161,12 +175,12 @@ fn lists_pass(s: &[u8], f: Frame, item: usize, h: DirectoryHead) -> CheckAnswer
 }
 
 // The directory at a place, by its own rules: its head.
-pub fn directory(s: &[u8], f: Frame, item: usize) -> DirectoryHeadAnswer
-    ensures { λ r. ⌜ directory-head-outcome r ≡ directoryHead (now (s .entry)) f item ⌝ }
+pub fn directory(s: &[u8], frame: Frame, item: usize) -> DirectoryHeadAnswer
+    ensures { λ r. ⌜ directory-head-outcome r ≡ directoryHead (now (s .entry)) frame item ⌝ }
 {
-    match head_at(s, f, item) {
+    match head_at(s, frame, item) {
         DirectoryHeadAnswer::Refused(r) => DirectoryHeadAnswer::Refused(r),
-        DirectoryHeadAnswer::Got(h) => match lists_pass(s, f, item, h) {
+        DirectoryHeadAnswer::Got(h) => match lists_pass(s, frame, item, h) {
             CheckAnswer::Refused(r) => DirectoryHeadAnswer::Refused(r),
             CheckAnswer::Accepted => DirectoryHeadAnswer::Got(h),
         },
@@ -203,29 +217,35 @@ fn before_of(h: DirectoryHead, list: u32) -> usize
 }
 
 // The count that a list's indices are tested by.
-fn limit_of(f: Frame, list: u32) -> u32
-    ensures { λ r. ⌜ r ≡ limitOf f list ⌝ }
+fn limit_of(frame: Frame, list: u32) -> u32
+    ensures { λ r. ⌜ r ≡ limitOf frame list ⌝ }
 {
     if list == 0 {
-        return f.fields;
+        return frame.fields;
     }
-    f.methods
+    frame.methods
 }
 
 // Entry k of a list: fields 0, methods 1, parameters 2.
-pub fn directory_entry(s: &[u8], f: Frame, item: usize, list: u32, k: u32) -> DirectoryEntryAnswer
-    ensures { λ r. ⌜ directory-entry-outcome r ≡ directoryEntry (now (s .entry)) f item list k ⌝ }
+pub fn directory_entry(
+    s: &[u8],
+    frame: Frame,
+    item: usize,
+    list: u32,
+    k: u32,
+) -> DirectoryEntryAnswer
+    ensures { λ r. ⌜ directory-entry-outcome r ≡ directoryEntry (now (s .entry)) frame item list k ⌝ }
 {
-    match directory(s, f, item) {
+    match directory(s, frame, item) {
         DirectoryHeadAnswer::Refused(r) => DirectoryEntryAnswer::Refused(r),
         DirectoryHeadAnswer::Got(h) => {
             if k < count_of(h, list) {
                 let before = before_of(h, list);
                 return entry_at(
                     s,
-                    f,
+                    frame,
                     item,
-                    limit_of(f, list),
+                    limit_of(frame, list),
                     item + 16 + 8 * (before + k as usize),
                 );
             }

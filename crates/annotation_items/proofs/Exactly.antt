@@ -4,6 +4,7 @@ use Prim.Native.Nat.{ℕ, _+_, _≤_, _<_}
 use mathlib.Core.Path.{_≡_, refl, sym, subst}
 use mathlib.Core.List.{List}
 use lib.ListN.{length, getD}
+use Rattle.refusal.specs.Refusals.{runs-past, unknown-kind}
 use Rattle.refusal.specs.Exact.{Exact}
 use Rattle.refusal.proofs.Exact.{same, answer-exact, given-exact, bind-exact, exact-iff, below, at-most}
 use Rattle.frame.specs.declared.Frame.{Frame}
@@ -14,7 +15,7 @@ use Rattle.annotation_items.specs.Rules.{AnnotationItemRule}
 
 pub visibility-exact : (s : List ℕ) (item : ℕ) → Exact (visibilityAt s item) (λ (v : ℕ). (item < length s) × ((getD s item 0 ≤ 2) × (getD s item 0 ≡ v)))
 unfolding visibilityAt
-visibility-exact s item = given-exact 9 item (below item (length s)) (given-exact 18 item (at-most (getD s item 0) 2) (answer-exact (getD s item 0)))
+visibility-exact s item = given-exact (runs-past item) (below item (length s)) (given-exact (unknown-kind item) (at-most (getD s item 0) 2) (answer-exact (getD s item 0)))
 
 module _ (s : List ℕ) (f : Frame) (item : ℕ) where
   pub item-exact : Exact (itemAt s f item) (AnnotationItemRule s f item)

@@ -4,6 +4,7 @@ use Prim.Native.Nat.{ℕ, _≤_}
 use mathlib.Core.Path.{_≡_, _∙_}
 use mathlib.Core.List.{List}
 use lib.ListN.{length}
+use Rattle.refusal.specs.Refusals.{not-there}
 use Rattle.refusal.specs.Outcome.{answer, refused}
 use Rattle.refusal.specs.Exact.{At}
 use Rattle.refusal.proofs.Laws.{bind-answer, bind-refused}
@@ -28,6 +29,6 @@ module _ (s : List ℕ) (f : Frame) (item : ℕ) (a : AnnotationItem) (h : Annot
   unfolding itemElement
   elements-kth k e m = bind-answer _ (item-exact s f item .complete a h) ∙ bind-answer _ (pick-there m)
 
-  pub elements-past : (k : ℕ) → length (a .annotation .elements) ≤ k → itemElement s f item k ≡ refused (record { number = 7; place = 0 })
+  pub elements-past : (k : ℕ) → length (a .annotation .elements) ≤ k → itemElement s f item k ≡ refused not-there
   unfolding itemElement
   elements-past k p = bind-answer _ (item-exact s f item .complete a h) ∙ bind-refused _ (pick-none (a .annotation .elements) k p)

@@ -3,6 +3,7 @@ use Prim.Native.Nat.{ℕ, _+_}
 use mathlib.Core.List.{List}
 use lib.ListN.{length, getD}
 use lib.Dec.{ltb, leb}
+use Rattle.refusal.specs.Refusals.{runs-past, unknown-kind}
 use Rattle.refusal.specs.Outcome.{Outcome, answer, _>>=_, given}
 use Rattle.frame.specs.declared.Frame.{Frame}
 use Rattle.value_heads.specs.Kinds.{walkOf}
@@ -26,13 +27,13 @@ pub record Summary : Type 0 where
 
 -- "18: visibility over 2"; 9 where the byte is missing
 unfoldable pub visibilityAt : List ℕ → ℕ → Outcome ℕ
-visibilityAt s item = given (ltb item (length s)) 9 item (given (leb (getD s item 0) 2) 18 item (answer (getD s item 0)))
+visibilityAt s item = given (ltb item (length s)) (runs-past item) (given (leb (getD s item 0) 2) (unknown-kind item) (answer (getD s item 0)))
 
-module _ (s : List ℕ) (f : Frame) (item : ℕ) where
+module _ (s : List ℕ) (frame : Frame) (item : ℕ) where
   unfoldable pub itemAt : Outcome AnnotationItem
   itemAt = do
     v ← visibilityAt s item
-    a ← annotationAt s (walkOf f item) deepest (item + 1)
+    a ← annotationAt s (walkOf frame item) deepest (item + 1)
     answer (record { place = item; visibility = v; annotation = a .item })
 
   -- what code keeps

@@ -45,13 +45,13 @@ fn visibility_at(s: &[u8], item: usize) -> VisibilityAnswer
 }
 
 // The annotation item at a place, gone over whole: its visibility.
-pub fn annotation_item(s: &[u8], f: Frame, item: usize) -> VisibilityAnswer
-    ensures { λ r. ⌜ visibility-outcome r ≡ itemVisibility (now (s .entry)) f item ⌝ }
+pub fn annotation_item(s: &[u8], frame: Frame, item: usize) -> VisibilityAnswer
+    ensures { λ r. ⌜ visibility-outcome r ≡ itemVisibility (now (s .entry)) frame item ⌝ }
 {
     match visibility_at(s, item) {
         VisibilityAnswer::Refused(r) => VisibilityAnswer::Refused(r),
         VisibilityAnswer::Got(visibility) => {
-            match encoded_value::top_annotation(s, value_heads::walk_of(f, item), item + 1) {
+            match encoded_value::top_annotation(s, value_heads::walk_of(frame, item), item + 1) {
                 StepAnswer::Refused(r) => VisibilityAnswer::Refused(r),
                 StepAnswer::Next(_) => VisibilityAnswer::Got(visibility),
             }
@@ -60,13 +60,13 @@ pub fn annotation_item(s: &[u8], f: Frame, item: usize) -> VisibilityAnswer
 }
 
 // The annotation item at a place: its visibility, its type, and how many elements it has.
-pub fn annotation(s: &[u8], f: Frame, item: usize) -> SummaryAnswer
-    ensures { λ r. ⌜ summary-outcome r ≡ itemSummary (now (s .entry)) f item ⌝ }
+pub fn annotation(s: &[u8], frame: Frame, item: usize) -> SummaryAnswer
+    ensures { λ r. ⌜ summary-outcome r ≡ itemSummary (now (s .entry)) frame item ⌝ }
 {
     match visibility_at(s, item) {
         VisibilityAnswer::Refused(r) => SummaryAnswer::Refused(r),
         VisibilityAnswer::Got(visibility) => {
-            match value_bodies::annotation_head(s, value_heads::walk_of(f, item), item + 1) {
+            match value_bodies::annotation_head(s, value_heads::walk_of(frame, item), item + 1) {
                 value_bodies::AnnotationHeadAnswer::Refused(r) => SummaryAnswer::Refused(r),
                 value_bodies::AnnotationHeadAnswer::Got { type_index, count } =>
                     SummaryAnswer::Got {
@@ -80,13 +80,13 @@ pub fn annotation(s: &[u8], f: Frame, item: usize) -> SummaryAnswer
 }
 
 // Element k of the annotation item at a place: its name and its value.
-pub fn annotation_element(s: &[u8], f: Frame, item: usize, k: u32) -> ElementAnswer
-    ensures { λ r. ⌜ element-outcome r ≡ itemElement (now (s .entry)) f item k ⌝ }
+pub fn annotation_element(s: &[u8], frame: Frame, item: usize, k: u32) -> ElementAnswer
+    ensures { λ r. ⌜ element-outcome r ≡ itemElement (now (s .entry)) frame item k ⌝ }
 {
     match visibility_at(s, item) {
         VisibilityAnswer::Refused(r) => ElementAnswer::Refused(r),
         VisibilityAnswer::Got(_) => {
-            value_bodies::annotation_element(s, value_heads::walk_of(f, item), item + 1, k)
+            value_bodies::annotation_element(s, value_heads::walk_of(frame, item), item + 1, k)
         }
     }
 }

@@ -5,6 +5,7 @@ use mathlib.Core.Path.{_≡_, refl, sym, subst}
 use mathlib.Core.Bool.{Bool, true, false}
 use mathlib.Core.List.{List}
 use lib.ListN.{length}
+use Rattle.refusal.specs.Refusals.{runs-past, wrong-offset}
 use Rattle.refusal.specs.Exact.{Exact, Decides}
 use Rattle.refusal.proofs.Exact.{same, answer-exact, given-exact, bind-exact, exact-iff, at-most}
 use Rattle.word.specs.Words.{u32At}
@@ -26,14 +27,14 @@ Stands s f p x = (p + 4 ≤ length s) × (u32At (f .order) s p ≡ x)
 
 pub word-exact : (s : List ℕ) (f : Frame) (item p : ℕ) → Exact (wordAt s f item p) (λ (x : ℕ). (p + 4 ≤ length s) × (u32At (f .order) s p ≡ x))
 unfolding wordAt
-word-exact s f item p = given-exact 9 item (at-most (p + 4) (length s)) (answer-exact (u32At (f .order) s p))
+word-exact s f item p = given-exact (runs-past item) (at-most (p + 4) (length s)) (answer-exact (u32At (f .order) s p))
 
 module _ (s : List ℕ) (f : Frame) (item : ℕ) (absent four : Bool) where
   pub offset-exact : (p : ℕ) → Exact (offsetAt s f item absent four p) (OffsetRule s f item absent four p)
   unfolding offsetAt offsetOf
   offset-exact p =
       let x = u32At (f .order) s p in
-      exact-iff (given-exact 8 item (offset-decides (f .start) (length s) absent four x) (answer-exact x))
+      exact-iff (given-exact (wrong-offset item) (offset-decides (f .start) (length s) absent four x) (answer-exact x))
       (λ y h. record { stands = h .1; allows = subst (OffsetAllowed (f .start) (length s) absent four) (h .1) (h .0) })
       (λ y h. (subst (OffsetAllowed (f .start) (length s) absent four) (sym (h .stands)) (h .allows), h .stands))
 

@@ -5,6 +5,7 @@ use mathlib.Core.Path.{_≡_, ap, sym, _∙_}
 use mathlib.Core.List.{List}
 use lib.ListN.{length}
 use native.Mathlib.Omega.{arith}
+use Rattle.refusal.specs.Refusals.{runs-past}
 use Rattle.refusal.specs.declared.Refusal.{Refusal}
 use Rattle.refusal.specs.Outcome.{Outcome, answer, refused, _>>=_, accepted}
 use Rattle.refusal.specs.Exact.{Exact, Each}
@@ -24,7 +25,7 @@ module _ {A : Type 0} (entry : ℕ → Outcome A) (width from count : ℕ) where
     pub fixed-exact : (s : List ℕ) (item : ℕ) → Exact (fixedAt s item entry width from count) (Fixed s Entry width from count)
     unfolding fixedAt
     fixed-exact s item =
-        exact-iff (given-exact 9 item (at-most (from + width * count) (length s)) entries-exact)
+        exact-iff (given-exact (runs-past item) (at-most (from + width * count) (length s)) entries-exact)
         (λ l h. record { room = h .0; entries = h .1 })
         (λ l h. (h .room, h .entries))
 

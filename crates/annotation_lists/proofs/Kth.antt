@@ -5,6 +5,7 @@ use mathlib.Core.Path.{_≡_, _∙_}
 use mathlib.Core.Bool.{Bool}
 use mathlib.Core.List.{List}
 use lib.ListN.{length}
+use Rattle.refusal.specs.Refusals.{not-there}
 use Rattle.refusal.specs.Outcome.{answer, refused}
 use Rattle.refusal.specs.Exact.{At}
 use Rattle.refusal.proofs.Laws.{bind-answer}
@@ -24,6 +25,6 @@ module _ (s : List ℕ) (f : Frame) (item : ℕ) (absent four : Bool) (l : List 
   unfolding offsetNumber
   offsets-kth k x m = bind-answer _ (offsets-exact s f item absent four .complete l h) ∙ pick-there m
 
-  pub offsets-past : (k : ℕ) → length l ≤ k → offsetNumber s f item absent four k ≡ refused (record { number = 7; place = 0 })
+  pub offsets-past : (k : ℕ) → length l ≤ k → offsetNumber s f item absent four k ≡ refused not-there
   unfolding offsetNumber
   offsets-past k p = bind-answer _ (offsets-exact s f item absent four .complete l h) ∙ pick-none l k p

@@ -10,6 +10,7 @@ use borrow.Author.Needs.{needs}
 use native.Mathlib.Omega.{arith}
 use mir.Syntax.{w64}
 use mir.Val.{Fits}
+use Rattle.refusal.specs.Refusals.{not-there, runs-past}
 use Rattle.refusal.specs.declared.Refusal.{Refusal}
 use Rattle.refusal.specs.Outcome.{Outcome, answer, refused, _>>=_, accepted}
 use Rattle.refusal.proofs.Laws.{said, calls, tests, bind-answer, bind-refused, passes, fails}
@@ -67,13 +68,13 @@ module _ (s : List ℕ) (f : Frame) (item : ℕ) (absent four : Bool) where
       unfolding offsetsAt
       past-size = bind-answer _ (sym e ∙ ap word-outcome t)
 
-      pub count-long : b ≡ false → refused (record { number = 9; place = item }) ≡ offsetCount s f item absent four
+      pub count-long : b ≡ false → refused (runs-past item) ≡ offsetCount s f item absent four
       unfolding offsetCount fixedAt
       count-long q = sym (bind-refused _ (past-size ∙ sym (fails _ (sym room ∙ q))))
 
       entered : b ≡ true → offsetsAt s f item absent four ≡ entriesFrom (offsetAt s f item absent four) 4 (item + 4) n
       unfolding fixedAt
-      entered q = past-size ∙ sym (passes 9 item (sym room ∙ q) refl)
+      entered q = past-size ∙ sym (passes (runs-past item) (sym room ∙ q) refl)
 
       module _ (q : b ≡ true) {y : CheckAnswer} (g : checked-outcome y ≡ offsetsPass s f item absent four (item + 4) n) where
         pub count-stop : {r : Refusal} → y ≡ C.Refused r → refused r ≡ offsetCount s f item absent four
@@ -105,7 +106,7 @@ module _ (s : List ℕ) (f : Frame) (item : ℕ) (absent four : Bool) where
       count-room = let a = whole .1 .1 in let b = rule .offsets .entries .count in let c = rule .offsets .room in omega arith
 
       module _ (k : ℕ) where
-        pub number-none : n ≤ k → refused (record { number = 7; place = 0 }) ≡ offsetNumber s f item absent four k
+        pub number-none : n ≤ k → refused not-there ≡ offsetNumber s f item absent four k
         unfolding offsetNumber
         number-none h = let z = whole .1 .1 in sym (bind-answer _ (whole .1 .0) ∙ pick-none (whole .0) k (omega arith))
 

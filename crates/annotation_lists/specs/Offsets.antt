@@ -4,6 +4,7 @@ use mathlib.Core.Bool.{Bool, true, false, cond}
 use mathlib.Core.List.{List}
 use lib.ListN.{length}
 use lib.Dec.{leb}
+use Rattle.refusal.specs.Refusals.{runs-past, wrong-offset}
 use Rattle.refusal.specs.Outcome.{Outcome, answer, _>>=_, given, accepted}
 use Rattle.word.specs.Words.{u32At}
 use Rattle.frame.specs.declared.Frame.{Frame}
@@ -17,19 +18,19 @@ offsetAllowed start end absent four x = cond absent (allowedOrAbsent start end f
 
 -- a word of four bytes: 9 where it is missing
 unfoldable pub wordAt : List ℕ → Frame → ℕ → ℕ → Outcome ℕ
-wordAt s f item p = given (leb (p + 4) (length s)) 9 item (answer (u32At (f .order) s p))
+wordAt s frame item p = given (leb (p + 4) (length s)) (runs-past item) (answer (u32At (frame .order) s p))
 
 -- lists of offsets: is 0 an absent item, and must the others be multiples of 4
-module _ (s : List ℕ) (f : Frame) (item : ℕ) (absent four : Bool) where
+module _ (s : List ℕ) (frame : Frame) (item : ℕ) (absent four : Bool) where
   unfoldable pub offsetOf : ℕ → Outcome ℕ
-  offsetOf x = given (offsetAllowed (f .start) (length s) absent four x) 8 item (answer x)
+  offsetOf x = given (offsetAllowed (frame .start) (length s) absent four x) (wrong-offset item) (answer x)
 
   unfoldable pub offsetAt : ℕ → Outcome ℕ
-  offsetAt p = offsetOf (u32At (f .order) s p)
+  offsetAt p = offsetOf (u32At (frame .order) s p)
 
   unfoldable pub offsetsAt : Outcome (List ℕ)
   offsetsAt = do
-    count ← wordAt s f item item
+    count ← wordAt s frame item item
     fixedAt s item offsetAt 4 (item + 4) count
 
   -- what code keeps: how many, or number k
@@ -49,8 +50,8 @@ module _ (s : List ℕ) (f : Frame) (item : ℕ) (absent four : Bool) where
 
 -- a set holds no absent item, and annotation items need no alignment
 abbrev pub setAt : List ℕ → Frame → ℕ → Outcome (List ℕ)
-setAt s f item = offsetsAt s f item false false
+setAt s frame item = offsetsAt s frame item false false
 
 -- "Multiples of 4: .. annotation directories, sets and reference lists."
 abbrev pub referencesAt : List ℕ → Frame → ℕ → Outcome (List ℕ)
-referencesAt s f item = offsetsAt s f item true true
+referencesAt s frame item = offsetsAt s frame item true true

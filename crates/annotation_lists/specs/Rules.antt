@@ -14,16 +14,16 @@ unfoldable pub OffsetAllowed : ℕ → ℕ → Bool → Bool → ℕ → Type 0
 OffsetAllowed start end true four x = AllowedOrAbsent start end four x
 OffsetAllowed start end false four x = Allowed start end four x
 
-pub record OffsetRule (s : List ℕ) (f : Frame) (item : ℕ) (absent four : Bool) (p x : ℕ) : Type 0 where
-  pub stands : u32At (f .order) s p ≡ x
-  pub allows : OffsetAllowed (f .start) (length s) absent four x
+pub record OffsetRule (s : List ℕ) (frame : Frame) (item : ℕ) (absent four : Bool) (p x : ℕ) : Type 0 where
+  pub stands : u32At (frame .order) s p ≡ x
+  pub allows : OffsetAllowed (frame .start) (length s) absent four x
 
-pub record OffsetsRule (s : List ℕ) (f : Frame) (item : ℕ) (absent four : Bool) (l : List ℕ) : Type 0 where
+pub record OffsetsRule (s : List ℕ) (frame : Frame) (item : ℕ) (absent four : Bool) (l : List ℕ) : Type 0 where
   pub room : item + 4 ≤ length s
-  pub offsets : Fixed s (OffsetRule s f item absent four) 4 (item + 4) (u32At (f .order) s item) l
+  pub offsets : Fixed s (OffsetRule s frame item absent four) 4 (item + 4) (u32At (frame .order) s item) l
 
 abbrev pub SetRule : List ℕ → Frame → ℕ → List ℕ → Type 0
-SetRule s f item = OffsetsRule s f item false false
+SetRule s frame item = OffsetsRule s frame item false false
 
 abbrev pub ReferencesRule : List ℕ → Frame → ℕ → List ℕ → Type 0
-ReferencesRule s f item = OffsetsRule s f item true true
+ReferencesRule s frame item = OffsetsRule s frame item true true

@@ -18,10 +18,10 @@ pub enum WordAnswer {
 }
 
 // A word of four bytes, 9 where it is missing.
-pub fn word_at(s: &[u8], f: Frame, item: usize, at: usize) -> WordAnswer
-    ensures { λ r. ⌜ word-outcome r ≡ wordAt (now (s .entry)) f item at ⌝ }
+pub fn word_at(s: &[u8], frame: Frame, item: usize, at: usize) -> WordAnswer
+    ensures { λ r. ⌜ word-outcome r ≡ wordAt (now (s .entry)) frame item at ⌝ }
 {
-    let order = f.order;
+    let order = frame.order;
     if word::has_room(s.len(), at, 4) {
         return WordAnswer::Got(word::u32_at(s, at, order));
     }
@@ -42,12 +42,12 @@ fn is_offset(start: usize, end: usize, absent: bool, four: bool, offset: usize) 
 }
 
 // The offset at a place.
-fn offset_at(s: &[u8], f: Frame, item: usize, absent: bool, four: bool, at: usize) -> WordAnswer
-    ensures { λ r. ⌜ word-outcome r ≡ offsetAt (now (s .entry)) f item absent four at ⌝ }
+fn offset_at(s: &[u8], frame: Frame, item: usize, absent: bool, four: bool, at: usize) -> WordAnswer
+    ensures { λ r. ⌜ word-outcome r ≡ offsetAt (now (s .entry)) frame item absent four at ⌝ }
 {
-    let order = f.order;
+    let order = frame.order;
     let offset = word::u32_at(s, at, order);
-    if is_offset(f.start, s.len(), absent, four, offset as usize) {
+    if is_offset(frame.start, s.len(), absent, four, offset as usize) {
         return WordAnswer::Got(offset);
     }
     WordAnswer::Refused(Refusal {
@@ -59,7 +59,7 @@ fn offset_at(s: &[u8], f: Frame, item: usize, absent: bool, four: bool, at: usiz
 // All offsets from a place on, which lie within the slice.
 fn offsets_pass(
     s: &[u8],
-    f: Frame,
+    frame: Frame,
     item: usize,
     absent: bool,
     four: bool,
@@ -67,12 +67,12 @@ fn offsets_pass(
     count: u32,
 ) -> CheckAnswer
     requires { ⌜ from + 4 * count ≤ length (now s) ⌝ }
-    ensures { λ r. ⌜ checked-outcome r ≡ offsetsPass (now (s .entry)) f item absent four from count ⌝ }
+    ensures { λ r. ⌜ checked-outcome r ≡ offsetsPass (now (s .entry)) frame item absent four from count ⌝ }
 {
     let mut at = from;
     let mut left = count;
     while 0 < left {
-        match offset_at(s, f, item, absent, four, at) {
+        match offset_at(s, frame, item, absent, four, at) {
             WordAnswer::Refused(r) => {
                 return CheckAnswer::Refused(r);
             }
@@ -87,14 +87,14 @@ fn offsets_pass(
 
 // How many offsets a list has: its size, its length, then its offsets. The going over a set calls this itself and not `set_count`, which has other
 // callers and would not be compiled into it.
-pub fn offset_count(s: &[u8], f: Frame, item: usize, absent: bool, four: bool) -> WordAnswer
-    ensures { λ r. ⌜ word-outcome r ≡ offsetCount (now (s .entry)) f item absent four ⌝ }
+pub fn offset_count(s: &[u8], frame: Frame, item: usize, absent: bool, four: bool) -> WordAnswer
+    ensures { λ r. ⌜ word-outcome r ≡ offsetCount (now (s .entry)) frame item absent four ⌝ }
 {
-    match word_at(s, f, item, item) {
+    match word_at(s, frame, item, item) {
         WordAnswer::Refused(r) => WordAnswer::Refused(r),
         WordAnswer::Got(count) => {
             if word::has_room(s.len(), item + 4, 4 * count as usize) {
-                match offsets_pass(s, f, item, absent, four, item + 4, count) {
+                match offsets_pass(s, frame, item, absent, four, item + 4, count) {
                     CheckAnswer::Refused(r) => {
                         return WordAnswer::Refused(r);
                     }
@@ -112,14 +112,21 @@ pub fn offset_count(s: &[u8], f: Frame, item: usize, absent: bool, four: bool) -
 }
 
 // Number k of a list's offsets.
-fn offset_number(s: &[u8], f: Frame, item: usize, absent: bool, four: bool, k: u32) -> WordAnswer
-    ensures { λ r. ⌜ word-outcome r ≡ offsetNumber (now (s .entry)) f item absent four k ⌝ }
+fn offset_number(
+    s: &[u8],
+    frame: Frame,
+    item: usize,
+    absent: bool,
+    four: bool,
+    k: u32,
+) -> WordAnswer
+    ensures { λ r. ⌜ word-outcome r ≡ offsetNumber (now (s .entry)) frame item absent four k ⌝ }
 {
-    match offset_count(s, f, item, absent, four) {
+    match offset_count(s, frame, item, absent, four) {
         WordAnswer::Refused(r) => WordAnswer::Refused(r),
         WordAnswer::Got(count) => {
             if k < count {
-                return offset_at(s, f, item, absent, four, item + 4 + 4 * k as usize);
+                return offset_at(s, frame, item, absent, four, item + 4 + 4 * k as usize);
             }
             WordAnswer::Refused(Refusal {
                 number: 7,
@@ -130,29 +137,29 @@ fn offset_number(s: &[u8], f: Frame, item: usize, absent: bool, four: bool, k: u
 }
 
 // How many annotation items a set has.
-pub fn set_count(s: &[u8], f: Frame, item: usize) -> WordAnswer
-    ensures { λ r. ⌜ word-outcome r ≡ offsetCount (now (s .entry)) f item false false ⌝ }
+pub fn set_count(s: &[u8], frame: Frame, item: usize) -> WordAnswer
+    ensures { λ r. ⌜ word-outcome r ≡ offsetCount (now (s .entry)) frame item false false ⌝ }
 {
-    offset_count(s, f, item, false, false)
+    offset_count(s, frame, item, false, false)
 }
 
 // Where number k of a set's annotation items is.
-pub fn set_offset(s: &[u8], f: Frame, item: usize, k: u32) -> WordAnswer
-    ensures { λ r. ⌜ word-outcome r ≡ offsetNumber (now (s .entry)) f item false false k ⌝ }
+pub fn set_offset(s: &[u8], frame: Frame, item: usize, k: u32) -> WordAnswer
+    ensures { λ r. ⌜ word-outcome r ≡ offsetNumber (now (s .entry)) frame item false false k ⌝ }
 {
-    offset_number(s, f, item, false, false, k)
+    offset_number(s, frame, item, false, false, k)
 }
 
 // How many sets a reference list has, absent ones too.
-pub fn reference_count(s: &[u8], f: Frame, item: usize) -> WordAnswer
-    ensures { λ r. ⌜ word-outcome r ≡ offsetCount (now (s .entry)) f item true true ⌝ }
+pub fn reference_count(s: &[u8], frame: Frame, item: usize) -> WordAnswer
+    ensures { λ r. ⌜ word-outcome r ≡ offsetCount (now (s .entry)) frame item true true ⌝ }
 {
-    offset_count(s, f, item, true, true)
+    offset_count(s, frame, item, true, true)
 }
 
 // Where number k of a reference list's sets is, 0 where it is absent.
-pub fn reference_offset(s: &[u8], f: Frame, item: usize, k: u32) -> WordAnswer
-    ensures { λ r. ⌜ word-outcome r ≡ offsetNumber (now (s .entry)) f item true true k ⌝ }
+pub fn reference_offset(s: &[u8], frame: Frame, item: usize, k: u32) -> WordAnswer
+    ensures { λ r. ⌜ word-outcome r ≡ offsetNumber (now (s .entry)) frame item true true k ⌝ }
 {
-    offset_number(s, f, item, true, true, k)
+    offset_number(s, frame, item, true, true, k)
 }

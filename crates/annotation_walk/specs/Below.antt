@@ -27,33 +27,33 @@ pub record Annotated : Type 0 where
   pub methods : List (Under (List AnnotationItem))
   pub parameters : List (Under (List (Option (List AnnotationItem))))
 
-module _ (s : List ℕ) (f : Frame) where
+module _ (s : List ℕ) (frame : Frame) where
   -- the item whose offset stands at a place
   unfoldable pub itemFrom : ℕ → Outcome AnnotationItem
-  itemFrom p = itemAt s f (u32At (f .order) s p)
+  itemFrom p = itemAt s frame (u32At (frame .order) s p)
 
   -- a set: its own rules, then its items in order
   unfoldable pub setBelow : ℕ → Outcome (List AnnotationItem)
   setBelow item = do
-    l ← setAt s f item
+    l ← setAt s frame item
     entriesFrom itemFrom 4 (item + 4) (length l)
 
   -- the set whose offset stands at a place, none where it is absent
   unfoldable pub setFrom : ℕ → Outcome (Option (List AnnotationItem))
-  setFrom p = present (u32At (f .order) s p) (setBelow (u32At (f .order) s p))
+  setFrom p = present (u32At (frame .order) s p) (setBelow (u32At (frame .order) s p))
 
   -- a reference list: its own rules, then its sets in order
   unfoldable pub referencesBelow : ℕ → Outcome (List (Option (List AnnotationItem)))
   referencesBelow item = do
-    l ← referencesAt s f item
+    l ← referencesAt s frame item
     entriesFrom setFrom 4 (item + 4) (length l)
 
   -- what lies below the entry at a place
   module _ {B : Type 0} (below : ℕ → Outcome B) where
     unfoldable pub entryFrom : ℕ → Outcome (Under B)
     entryFrom p = do
-      b ← below (u32At (f .order) s (p + 4))
-      answer (record { index = u32At (f .order) s p; offset = u32At (f .order) s (p + 4); below = b })
+      b ← below (u32At (frame .order) s (p + 4))
+      answer (record { index = u32At (frame .order) s p; offset = u32At (frame .order) s (p + 4); below = b })
 
   -- a directory: its own rules, then class, fields, methods, parameters
   unfoldable pub headBelow : ℕ → DirectoryHead → Outcome Annotated
@@ -66,7 +66,7 @@ module _ (s : List ℕ) (f : Frame) where
 
   unfoldable pub directoryBelow : ℕ → Outcome Annotated
   directoryBelow item = do
-    d ← directoryAt s f item
+    d ← directoryAt s frame item
     headBelow item (d .head)
 
   -- what code keeps: that there is an answer
@@ -94,7 +94,7 @@ module _ (s : List ℕ) (f : Frame) where
   oneBelow parameter offset = cond parameter (referencesAccepted offset) (setAccepted offset)
 
   unfoldable pub oneFrom : Bool → ℕ → Outcome Unit
-  oneFrom parameter p = oneBelow parameter (u32At (f .order) s (p + 4))
+  oneFrom parameter p = oneBelow parameter (u32At (frame .order) s (p + 4))
 
   abbrev pub belowPass : Bool → ℕ → ℕ → Outcome Unit
   belowPass parameter from count = entriesFrom (oneFrom parameter) 8 from count >>= accepted

@@ -15,15 +15,15 @@ ghost use Rattle.annotation_walk.specs.Below.{setAccepted, referencesAcc
 ghost use Rattle.annotation_walk.specs.Below.{itemsPass, ownAccepted, setsPass, oneBelow, belowPass, listsBelow};
 
 // The annotation items whose offsets stand from a place on.
-fn items_pass(s: &[u8], f: Frame, from: usize, count: u32) -> CheckAnswer
+fn items_pass(s: &[u8], frame: Frame, from: usize, count: u32) -> CheckAnswer
     requires { ⌜ from + 4 * count ≤ length (now s) ⌝ }
-    ensures { λ r. ⌜ checked-outcome r ≡ itemsPass (now (s .entry)) f from count ⌝ }
+    ensures { λ r. ⌜ checked-outcome r ≡ itemsPass (now (s .entry)) frame from count ⌝ }
 {
-    let order = f.order;
+    let order = frame.order;
     let mut at = from;
     let mut left = count;
     while 0 < left {
-        match annotation_items::annotation_item(s, f, word::u32_at(s, at, order) as usize) {
+        match annotation_items::annotation_item(s, frame, word::u32_at(s, at, order) as usize) {
             VisibilityAnswer::Refused(r) => {
                 return CheckAnswer::Refused(r);
             }
@@ -37,35 +37,35 @@ fn items_pass(s: &[u8], f: Frame, from: usize, count: u32) -> CheckAnswer
 }
 
 // A set with all below it.
-pub fn check_set(s: &[u8], f: Frame, item: usize) -> CheckAnswer
-    ensures { λ r. ⌜ checked-outcome r ≡ setAccepted (now (s .entry)) f item ⌝ }
+pub fn check_set(s: &[u8], frame: Frame, item: usize) -> CheckAnswer
+    ensures { λ r. ⌜ checked-outcome r ≡ setAccepted (now (s .entry)) frame item ⌝ }
 {
-    match annotation_lists::offset_count(s, f, item, false, false) {
+    match annotation_lists::offset_count(s, frame, item, false, false) {
         WordAnswer::Refused(r) => CheckAnswer::Refused(r),
-        WordAnswer::Got(count) => items_pass(s, f, item + 4, count),
+        WordAnswer::Got(count) => items_pass(s, frame, item + 4, count),
     }
 }
 
 // The set at an offset with all below it, if it is not absent.
-fn own_set(s: &[u8], f: Frame, offset: u32) -> CheckAnswer
-    ensures { λ r. ⌜ checked-outcome r ≡ ownAccepted (now (s .entry)) f offset ⌝ }
+fn own_set(s: &[u8], frame: Frame, offset: u32) -> CheckAnswer
+    ensures { λ r. ⌜ checked-outcome r ≡ ownAccepted (now (s .entry)) frame offset ⌝ }
 {
     if offset <= 0 {
         return CheckAnswer::Accepted;
     }
-    check_set(s, f, offset as usize)
+    check_set(s, frame, offset as usize)
 }
 
 // The sets whose offsets stand from a place on.
-fn sets_pass(s: &[u8], f: Frame, from: usize, count: u32) -> CheckAnswer
+fn sets_pass(s: &[u8], frame: Frame, from: usize, count: u32) -> CheckAnswer
     requires { ⌜ from + 4 * count ≤ length (now s) ⌝ }
-    ensures { λ r. ⌜ checked-outcome r ≡ setsPass (now (s .entry)) f from count ⌝ }
+    ensures { λ r. ⌜ checked-outcome r ≡ setsPass (now (s .entry)) frame from count ⌝ }
 {
-    let order = f.order;
+    let order = frame.order;
     let mut at = from;
     let mut left = count;
     while 0 < left {
-        match own_set(s, f, word::u32_at(s, at, order)) {
+        match own_set(s, frame, word::u32_at(s, at, order)) {
             CheckAnswer::Refused(r) => {
                 return CheckAnswer::Refused(r);
             }
@@ -79,35 +79,35 @@ fn sets_pass(s: &[u8], f: Frame, from: usize, count: u32) -> CheckAnswer
 }
 
 // A reference list with all below it.
-pub fn check_references(s: &[u8], f: Frame, item: usize) -> CheckAnswer
-    ensures { λ r. ⌜ checked-outcome r ≡ referencesAccepted (now (s .entry)) f item ⌝ }
+pub fn check_references(s: &[u8], frame: Frame, item: usize) -> CheckAnswer
+    ensures { λ r. ⌜ checked-outcome r ≡ referencesAccepted (now (s .entry)) frame item ⌝ }
 {
-    match annotation_lists::reference_count(s, f, item) {
+    match annotation_lists::reference_count(s, frame, item) {
         WordAnswer::Refused(r) => CheckAnswer::Refused(r),
-        WordAnswer::Got(count) => sets_pass(s, f, item + 4, count),
+        WordAnswer::Got(count) => sets_pass(s, frame, item + 4, count),
     }
 }
 
 // What an entry leads to: a reference list for a parameter, else a set.
-fn one_below(s: &[u8], f: Frame, parameter: bool, offset: usize) -> CheckAnswer
-    ensures { λ r. ⌜ checked-outcome r ≡ oneBelow (now (s .entry)) f parameter offset ⌝ }
+fn one_below(s: &[u8], frame: Frame, parameter: bool, offset: usize) -> CheckAnswer
+    ensures { λ r. ⌜ checked-outcome r ≡ oneBelow (now (s .entry)) frame parameter offset ⌝ }
 {
     if parameter {
-        return check_references(s, f, offset);
+        return check_references(s, frame, offset);
     }
-    check_set(s, f, offset)
+    check_set(s, frame, offset)
 }
 
 // What the entries from a place on lead to.
-fn below_pass(s: &[u8], f: Frame, parameter: bool, from: usize, count: u32) -> CheckAnswer
+fn below_pass(s: &[u8], frame: Frame, parameter: bool, from: usize, count: u32) -> CheckAnswer
     requires { ⌜ from + 8 * count ≤ length (now s) ⌝ }
-    ensures { λ r. ⌜ checked-outcome r ≡ belowPass (now (s .entry)) f parameter from count ⌝ }
+    ensures { λ r. ⌜ checked-outcome r ≡ belowPass (now (s .entry)) frame parameter from count ⌝ }
 {
-    let order = f.order;
+    let order = frame.order;
     let mut at = from;
     let mut left = count;
     while 0 < left {
-        match one_below(s, f, parameter, word::u32_at(s, at + 4, order) as usize) {
+        match one_below(s, frame, parameter, word::u32_at(s, at + 4, order) as usize) {
             CheckAnswer::Refused(r) => {
                 return CheckAnswer::Refused(r);
             }
@@ -121,19 +121,25 @@ fn below_pass(s: &[u8], f: Frame, parameter: bool, from: usize, count: u32) -> C
 }
 
 // Below the class, the fields, the methods and the parameters of a directory whose three lists lie within the slice.
-fn lists_below(s: &[u8], f: Frame, item: usize, h: DirectoryHead) -> CheckAnswer
+fn lists_below(s: &[u8], frame: Frame, item: usize, h: DirectoryHead) -> CheckAnswer
     requires { ⌜ item + 16 + 8 * h .fields + 8 * h .methods + 8 * h .parameters ≤ length (now s) ⌝ }
-    ensures { λ r. ⌜ checked-outcome r ≡ listsBelow (now (s .entry)) f item h ⌝ }
+    ensures { λ r. ⌜ checked-outcome r ≡ listsBelow (now (s .entry)) frame item h ⌝ }
 {
     let methods = item + 16 + 8 * h.fields as usize;
-    match own_set(s, f, h.set) {
+    match own_set(s, frame, h.set) {
         CheckAnswer::Refused(r) => CheckAnswer::Refused(r),
-        CheckAnswer::Accepted => match below_pass(s, f, false, item + 16, h.fields) {
+        CheckAnswer::Accepted => match below_pass(s, frame, false, item + 16, h.fields) {
             CheckAnswer::Refused(r) => CheckAnswer::Refused(r),
-            CheckAnswer::Accepted => match below_pass(s, f, false, methods, h.methods) {
+            CheckAnswer::Accepted => match below_pass(s, frame, false, methods, h.methods) {
                 CheckAnswer::Refused(r) => CheckAnswer::Refused(r),
                 CheckAnswer::Accepted => {
-                    below_pass(s, f, true, methods + 8 * h.methods as usize, h.parameters)
+                    below_pass(
+                        s,
+                        frame,
+                        true,
+                        methods + 8 * h.methods as usize,
+                        h.parameters,
+                    )
                 }
             },
         },
@@ -141,11 +147,11 @@ fn lists_below(s: &[u8], f: Frame, item: usize, h: DirectoryHead) -> CheckAnswer
 }
 
 // A directory with all below it.
-pub fn check_directory(s: &[u8], f: Frame, item: usize) -> CheckAnswer
-    ensures { λ r. ⌜ checked-outcome r ≡ directoryAccepted (now (s .entry)) f item ⌝ }
+pub fn check_directory(s: &[u8], frame: Frame, item: usize) -> CheckAnswer
+    ensures { λ r. ⌜ checked-outcome r ≡ directoryAccepted (now (s .entry)) frame item ⌝ }
 {
-    match annotation_directories::directory(s, f, item) {
+    match annotation_directories::directory(s, frame, item) {
         DirectoryHeadAnswer::Refused(r) => CheckAnswer::Refused(r),
-        DirectoryHeadAnswer::Got(h) => lists_below(s, f, item, h),
+        DirectoryHeadAnswer::Got(h) => lists_below(s, frame, item, h),
     }
 }

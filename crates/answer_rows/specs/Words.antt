@@ -64,14 +64,14 @@ order-word E.the-variants.Little = 0
 order-word E.the-variants.Big = 1
 
 unfoldable pub ordered-words : Header → ℕ → List ℕ
-ordered-words h order =
-    h .version ∷ order ∷ h .checksum ∷ h .map
-    ∷ h .strings .count ∷ h .strings .offset ∷ h .types .count ∷ h .types .offset ∷ h .protos .count ∷ h .protos .offset
-    ∷ h .fields .count ∷ h .fields .offset ∷ h .methods .count ∷ h .methods .offset ∷ h .classes .count ∷ h .classes .offset
-    ∷ h .start ∷ h .end ∷ []
+ordered-words header order =
+    header .version ∷ order ∷ header .checksum ∷ header .map
+    ∷ header .strings .count ∷ header .strings .offset ∷ header .types .count ∷ header .types .offset ∷ header .protos .count ∷ header .protos .offset
+    ∷ header .fields .count ∷ header .fields .offset ∷ header .methods .count ∷ header .methods .offset ∷ header .classes .count ∷ header .classes .offset
+    ∷ header .start ∷ header .end ∷ []
 
 unfoldable pub header-words : Header → List ℕ
-header-words h = ordered-words h (order-word (h .order))
+header-words header = ordered-words header (order-word (header .order))
 
 abbrev pub entry-words : MapEntry → List ℕ
 entry-words e = e .kind ∷ e .size ∷ e .offset ∷ []
@@ -100,7 +100,7 @@ class-words c = joined-words c (maybe-word (c .superclass)) (maybe-word (c .sour
 
 -- a part of the file: its place and its length
 abbrev pub signature-words : Header → List ℕ
-signature-words h = 12 ∷ 20 ∷ []
+signature-words header = 12 ∷ 20 ∷ []
 
 -- an integer as 64 bits, two's complement
 abbrev pub bits-of : ℤ → ℕ

@@ -33,21 +33,21 @@ fn maybe_word(m: Maybe) -> u64
     }
 }
 
-fn ordered_row(h: Header, order: u64) -> [u64; 20]
-    ensures { λ a. ⌜ a ≡ row (0 ∷ ordered-words h order) ⌝ }
+fn ordered_row(header: Header, order: u64) -> [u64; 20]
+    ensures { λ a. ⌜ a ≡ row (0 ∷ ordered-words header order) ⌝ }
 {
-    let strings = h.strings;
-    let types = h.types;
-    let protos = h.protos;
-    let fields = h.fields;
-    let methods = h.methods;
-    let classes = h.classes;
+    let strings = header.strings;
+    let types = header.types;
+    let protos = header.protos;
+    let fields = header.fields;
+    let methods = header.methods;
+    let classes = header.classes;
     [
         0,
-        h.version as u64,
+        header.version as u64,
         order,
-        h.checksum as u64,
-        h.map as u64,
+        header.checksum as u64,
+        header.map as u64,
         strings.count as u64,
         strings.offset as u64,
         types.count as u64,
@@ -60,17 +60,17 @@ fn ordered_row(h: Header, order: u64) -> [u64; 20]
         methods.offset as u64,
         classes.count as u64,
         classes.offset as u64,
-        h.start as u64,
-        h.end as u64,
+        header.start as u64,
+        header.end as u64,
         0,
     ]
 }
 
-fn whole_header(h: Header) -> [u64; 20]
-    ensures { λ a. ⌜ a ≡ row (0 ∷ header-words h) ⌝ }
+fn whole_header(header: Header) -> [u64; 20]
+    ensures { λ a. ⌜ a ≡ row (0 ∷ header-words header) ⌝ }
 {
-    let order = h.order;
-    ordered_row(h, order_word(order))
+    let order = header.order;
+    ordered_row(header, order_word(order))
 }
 
 pub fn header_row(a: HeaderAnswer) -> [u64; 20]

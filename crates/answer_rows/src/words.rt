@@ -124,8 +124,13 @@ pub fn value(v: Value, name: u32) -> [u64; 20]
         Value::Float { bits, value: _ } => four(16, bits as u64, 0, name as u64),
         Value::Double { bits, value: _ } => four(17, bits, 0, name as u64),
         Value::Index { kind, number } => four(kind as u64, number as u64, 0, name as u64),
-        Value::Array { offset, length } => four(28, offset as u64, length as u64, name as u64),
-        Value::Annotation { offset, length } => four(29, offset as u64, length as u64, name as u64),
+        Value::Array { offset, length } => four(0x1c, offset as u64, length as u64, name as u64),
+        Value::Annotation { offset, length } => four(
+            0x1d,
+            offset as u64,
+            length as u64,
+            name as u64,
+        ),
         Value::Null => four(30, 0, 0, name as u64),
         Value::Boolean(b) => four(31, truth_word(b), 0, name as u64),
     }

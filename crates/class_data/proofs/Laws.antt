@@ -9,6 +9,7 @@ use lib.Dec.{ltb, eqb}
 use borrow.Author.Needs.{needs}
 use borrow.Author.Tests.{lt-ltb, le-ltb}
 use native.Mathlib.Omega.{arith}
+use Rattle.refusal.specs.Refusals.{not-there}
 use Rattle.refusal.specs.Outcome.{Outcome, answer, refused, _>>=_, given}
 use Rattle.refusal.specs.Rows.{Found}
 use Rattle.refusal.proofs.Laws.{said, tests, calls, bind-answer, passes, fails}
@@ -156,25 +157,25 @@ module _ (s : List ℕ) (f : Frame) (item : ℕ) where
       go true x y z p = refl
       go false x y z p = p
 
-  pub member-by : (list k : ℕ) {y : Outcome Member} → y ≡ (keptDataAt s f item k >>= λ (h : KeptData). given (ltb k (countIn list (h .counts))) 7 0 (answer (memberIn list (h .members)))) → y ≡ memberOf s f item list k
+  pub member-by : (list k : ℕ) {y : Outcome Member} → y ≡ (keptDataAt s f item k >>= λ (h : KeptData). given (ltb k (countIn list (h .counts))) not-there (answer (memberIn list (h .members)))) → y ≡ memberOf s f item list k
   unfolding memberOf countIn memberIn
   member-by list k e =
-      e ∙ ap (λ (o : Outcome KeptData). o >>= λ (h : KeptData). given (ltb k (countIn list (h .counts))) 7 0 (answer (memberIn list (h .members)))) (sym (kept-whole k))
+      e ∙ ap (λ (o : Outcome KeptData). o >>= λ (h : KeptData). given (ltb k (countIn list (h .counts))) not-there (answer (memberIn list (h .members)))) (sym (kept-whole k))
       ∙ bind-assoc (classDataAt s f item) (holding k) _
-      ∙ λ i. classDataAt s f item >>= λ (d : ClassData). (bind-answer {o = holding k d} (λ (h : KeptData). given (ltb k (countIn list (h .counts))) 7 0 (answer (memberIn list (h .members)))) refl ∙ same d) i
+      ∙ λ i. classDataAt s f item >>= λ (d : ClassData). (bind-answer {o = holding k d} (λ (h : KeptData). given (ltb k (countIn list (h .counts))) not-there (answer (memberIn list (h .members)))) refl ∙ same d) i
     where
-      same : (d : ClassData) → given (ltb k (one-of-four list (length (d .statics)) (length (d .instances)) (length (d .directs)) (length (d .virtuals)) 0)) 7 0
+      same : (d : ClassData) → given (ltb k (one-of-four list (length (d .statics)) (length (d .instances)) (length (d .directs)) (length (d .virtuals)) 0)) not-there
           (answer (one-of-four list (getD (d .statics) k nobody) (getD (d .instances) k nobody) (getD (d .directs) k nobody) (getD (d .virtuals) k nobody) nobody))
-          ≡ given (ltb k (length (listOf list d))) 7 0 (answer (getD (listOf list d) k nobody))
-      same d = λ i. given (ltb k (sym (through length list (d .statics) (d .instances) (d .directs) (d .virtuals) []) i)) 7 0
+          ≡ given (ltb k (length (listOf list d))) not-there (answer (getD (listOf list d) k nobody))
+      same d = λ i. given (ltb k (sym (through length list (d .statics) (d .instances) (d .directs) (d .virtuals) []) i)) not-there
           (answer (sym (through (λ (l : List Member). getD l k nobody) list (d .statics) (d .instances) (d .directs) (d .virtuals) []) i))
 
 -- the count and the member that were asked for
 module _ (list k : ℕ) (c : Counts) (m : KeptMembers) {n : ℕ} (e : n ≡ countIn list c) where
-  pub member-there : {a : Member} → k < n → a ≡ memberIn list m → answer a ≡ given (ltb k (countIn list c)) 7 0 (answer (memberIn list m))
-  member-there p q = passes 7 0 (lt-ltb k (countIn list c) (omega arith)) (ap answer q)
+  pub member-there : {a : Member} → k < n → a ≡ memberIn list m → answer a ≡ given (ltb k (countIn list c)) not-there (answer (memberIn list m))
+  member-there p q = passes not-there (lt-ltb k (countIn list c) (omega arith)) (ap answer q)
 
-  pub member-lacks : n ≤ k → refused (record { number = 7; place = 0 }) ≡ given (ltb k (countIn list c)) 7 0 (answer (memberIn list m))
+  pub member-lacks : n ≤ k → refused not-there ≡ given (ltb k (countIn list c)) not-there (answer (memberIn list m))
   member-lacks p = fails _ (le-ltb k (countIn list c) (omega arith))
 
 -- ---- what this crate's functions are searched with

@@ -4,6 +4,7 @@ use mathlib.Core.Bool.{true, false, cond}
 use mathlib.Core.List.{List, []}
 use lib.ListN.{length, getD}
 use lib.Dec.{ltb, eqb}
+use Rattle.refusal.specs.Refusals.{not-there}
 use Rattle.refusal.specs.Outcome.{Outcome, answer, _>>=_, given}
 use Rattle.refusal.specs.Rows.{Found}
 use Rattle.leb128.specs.Leb.{ulebAt}
@@ -44,10 +45,10 @@ twoAt s j item from m n = do
   answer (record { item = record { first = x .item; second = y .item }; next = y .next .place })
 
 abbrev pub fields-judge : Frame → MemberJudge
-fields-judge f = record { limit = f .fields; code = false; start = f .start }
+fields-judge frame = record { limit = frame .fields; code = false; start = frame .start }
 
 abbrev pub methods-judge : Frame → MemberJudge
-methods-judge f = record { limit = f .methods; code = true; start = f .start }
+methods-judge frame = record { limit = frame .methods; code = true; start = frame .start }
 
 -- what the bytes say, where the methods begin, and the place after them
 pub record ClassData : Type 0 where
@@ -59,10 +60,10 @@ pub record ClassData : Type 0 where
   pub end : ℕ
 
 unfoldable pub classDataAt : List ℕ → Frame → ℕ → Outcome ClassData
-classDataAt s f item = do
+classDataAt s frame item = do
   c ← countsAt s item
-  x ← twoAt s (fields-judge f) item (c .next) (c .item .statics) (c .item .instances)
-  y ← twoAt s (methods-judge f) item (x .next) (c .item .directs) (c .item .virtuals)
+  x ← twoAt s (fields-judge frame) item (c .next) (c .item .statics) (c .item .instances)
+  y ← twoAt s (methods-judge frame) item (x .next) (c .item .directs) (c .item .virtuals)
   answer (record { statics = x .item .first; instances = x .item .second; directs = y .item .first; virtuals = y .item .second; methods = x .next; end = y .next })
 
 -- what is handed out of it: the four counts and the end
@@ -70,14 +71,14 @@ abbrev pub counts : ClassData → Counts
 counts d = record { statics = length (d .statics); instances = length (d .instances); directs = length (d .directs); virtuals = length (d .virtuals) }
 
 unfoldable pub extentAt : List ℕ → Frame → ℕ → Outcome (Found Counts ℕ)
-extentAt s f item = do
-  d ← classDataAt s f item
+extentAt s frame item = do
+  d ← classDataAt s frame item
   answer (record { item = counts d; next = d .end })
 
 -- how many methods either list has, and where they begin
 unfoldable pub methodsAt : List ℕ → Frame → ℕ → Outcome Methods
-methodsAt s f item = do
-  d ← classDataAt s f item
+methodsAt s frame item = do
+  d ← classDataAt s frame item
   answer (record { directs = length (d .directs); virtuals = length (d .virtuals); from = d .methods })
 
 -- one of four by the number of a list, or what stands for none: 0 static, 1 instance, 2 direct, 3 virtual
@@ -89,9 +90,9 @@ listOf list d = one-of-four list (d .statics) (d .instances) (d .directs) (d .vi
 
 -- a member by its list and number: the item's own rules first, then 7
 unfoldable pub memberOf : List ℕ → Frame → ℕ → ℕ → ℕ → Outcome Member
-memberOf s f item list k = do
-  d ← classDataAt s f item
-  given (ltb k (length (listOf list d))) 7 0 (answer (getD (listOf list d) k nobody))
+memberOf s frame item list k = do
+  d ← classDataAt s frame item
+  given (ltb k (length (listOf list d))) not-there (answer (getD (listOf list d) k nobody))
 
 -- ---- stages of the code, which keeps one member of each list and the counts
 pub record KeptTwo : Type 0 where
@@ -112,10 +113,10 @@ pub record KeptData : Type 0 where
   pub end : ℕ
 
 unfoldable pub keptDataAt : List ℕ → Frame → ℕ → ℕ → Outcome KeptData
-keptDataAt s f item k = do
+keptDataAt s frame item k = do
   c ← countsAt s item
-  x ← keptTwo s (fields-judge f) item (c .next) (c .item .statics) (c .item .instances) k
-  y ← keptTwo s (methods-judge f) item (x .next) (c .item .directs) (c .item .virtuals) k
+  x ← keptTwo s (fields-judge frame) item (c .next) (c .item .statics) (c .item .instances) k
+  y ← keptTwo s (methods-judge frame) item (x .next) (c .item .directs) (c .item .virtuals) k
   answer (record { counts = c .item; members = record { statics = x .first; instances = x .second; directs = y .first; virtuals = y .second }; methods = x .next; end = y .next })
 
 unfoldable pub countIn : ℕ → Counts → ℕ

@@ -16,13 +16,13 @@ pub record CountsRule (s : List ℕ) (p : ℕ) (c : Counts) (q : ℕ) : Type 0 w
   pub directs : Uleb s after-second (record { item = c .directs; next = after-third })
   pub virtuals : Uleb s after-third (record { item = c .virtuals; next = q })
 
-pub record DataRule (s : List ℕ) (f : Frame) (item : ℕ) (d : ClassData) : Type 0 where
+pub record DataRule (s : List ℕ) (frame : Frame) (item : ℕ) (d : ClassData) : Type 0 where
   pub counts : Counts
   pub after-counts : ℕ
   pub after-statics : ℕ
   pub after-directs : ℕ
   pub counted : CountsRule s item counts after-counts
-  pub statics : MembersRule s (fields-judge f) after-counts (counts .statics) (d .statics) after-statics
-  pub instances : MembersRule s (fields-judge f) after-statics (counts .instances) (d .instances) (d .methods)
-  pub directs : MembersRule s (methods-judge f) (d .methods) (counts .directs) (d .directs) after-directs
-  pub virtuals : MembersRule s (methods-judge f) after-directs (counts .virtuals) (d .virtuals) (d .end)
+  pub statics : MembersRule s (fields-judge frame) after-counts (counts .statics) (d .statics) after-statics
+  pub instances : MembersRule s (fields-judge frame) after-statics (counts .instances) (d .instances) (d .methods)
+  pub directs : MembersRule s (methods-judge frame) (d .methods) (counts .directs) (d .directs) after-directs
+  pub virtuals : MembersRule s (methods-judge frame) after-directs (counts .virtuals) (d .virtuals) (d .end)

@@ -166,16 +166,16 @@ fn counts_at(s: &[u8], item: usize) -> CountsAnswer
 }
 
 // The whole, of which member k of each list is kept.
-fn kept_at(s: &[u8], f: Frame, item: usize, k: u32) -> KeptDataAnswer
-    ensures { λ r. ⌜ kept-data-outcome r ≡ keptDataAt (now (s .entry)) f item k ⌝ }
+fn kept_at(s: &[u8], frame: Frame, item: usize, k: u32) -> KeptDataAnswer
+    ensures { λ r. ⌜ kept-data-outcome r ≡ keptDataAt (now (s .entry)) frame item k ⌝ }
 {
     match counts_at(s, item) {
         CountsAnswer::Refused(r) => KeptDataAnswer::Refused(r),
         CountsAnswer::Got { counts, next } => {
             let fields = MemberJudge {
-                limit: f.fields,
+                limit: frame.fields,
                 code: false,
-                start: f.start,
+                start: frame.start,
             };
             match two_at(s, fields, item, next, counts.statics, counts.instances, k) {
                 TwoMembersAnswer::Refused(r) => KeptDataAnswer::Refused(r),
@@ -185,9 +185,9 @@ fn kept_at(s: &[u8], f: Frame, item: usize, k: u32) -> KeptDataAnswer
                     next: middle,
                 } => {
                     let methods = MemberJudge {
-                        limit: f.methods,
+                        limit: frame.methods,
                         code: true,
-                        start: f.start,
+                        start: frame.start,
                     };
                     match two_at(s, methods, item, middle, counts.directs, counts.virtuals, k) {
                         TwoMembersAnswer::Refused(r) => KeptDataAnswer::Refused(r),
@@ -214,10 +214,10 @@ fn kept_at(s: &[u8], f: Frame, item: usize, k: u32) -> KeptDataAnswer
 }
 
 // The class data at a place.
-pub fn class_data_at(s: &[u8], f: Frame, item: usize) -> DataAnswer
-    ensures { λ r. ⌜ data-outcome r ≡ extentAt (now (s .entry)) f item ⌝ }
+pub fn class_data_at(s: &[u8], frame: Frame, item: usize) -> DataAnswer
+    ensures { λ r. ⌜ data-outcome r ≡ extentAt (now (s .entry)) frame item ⌝ }
 {
-    match kept_at(s, f, item, 0) {
+    match kept_at(s, frame, item, 0) {
         KeptDataAnswer::Refused(r) => DataAnswer::Refused(r),
         KeptDataAnswer::Got {
             counts,
@@ -229,16 +229,16 @@ pub fn class_data_at(s: &[u8], f: Frame, item: usize) -> DataAnswer
 }
 
 // How many methods either list has, and where they begin: for going over them once more. Nothing is kept of the members.
-pub fn methods_at(s: &[u8], f: Frame, item: usize) -> MethodsAnswer
-    ensures { λ r. ⌜ methods-outcome r ≡ methodsAt (now (s .entry)) f item ⌝ }
+pub fn methods_at(s: &[u8], frame: Frame, item: usize) -> MethodsAnswer
+    ensures { λ r. ⌜ methods-outcome r ≡ methodsAt (now (s .entry)) frame item ⌝ }
 {
     match counts_at(s, item) {
         CountsAnswer::Refused(r) => MethodsAnswer::Refused(r),
         CountsAnswer::Got { counts, next } => {
             let fields = MemberJudge {
-                limit: f.fields,
+                limit: frame.fields,
                 code: false,
-                start: f.start,
+                start: frame.start,
             };
             match two_at(s, fields, item, next, counts.statics, counts.instances, 0) {
                 TwoMembersAnswer::Refused(r) => MethodsAnswer::Refused(r),
@@ -248,9 +248,9 @@ pub fn methods_at(s: &[u8], f: Frame, item: usize) -> MethodsAnswer
                     next: middle,
                 } => {
                     let methods = MemberJudge {
-                        limit: f.methods,
+                        limit: frame.methods,
                         code: true,
-                        start: f.start,
+                        start: frame.start,
                     };
                     match two_at(s, methods, item, middle, counts.directs, counts.virtuals, 0) {
                         TwoMembersAnswer::Refused(r) => MethodsAnswer::Refused(r),
@@ -313,10 +313,10 @@ fn member_in(list: u32, m: KeptMembers) -> Member
 }
 
 // Member k of a list.
-pub fn member_at(s: &[u8], f: Frame, item: usize, list: u32, k: u32) -> MemberAnswer
-    ensures { λ r. ⌜ member-outcome r ≡ memberOf (now (s .entry)) f item list k ⌝ }
+pub fn member_at(s: &[u8], frame: Frame, item: usize, list: u32, k: u32) -> MemberAnswer
+    ensures { λ r. ⌜ member-outcome r ≡ memberOf (now (s .entry)) frame item list k ⌝ }
 {
-    match kept_at(s, f, item, k) {
+    match kept_at(s, frame, item, k) {
         KeptDataAnswer::Refused(r) => MemberAnswer::Refused(r),
         KeptDataAnswer::Got {
             counts,

@@ -4,6 +4,7 @@ use Prim.Native.Nat.{ℕ, _+_, _*_}
 use mathlib.Core.Path.{_≡_}
 use mathlib.Core.Bool.{true, false}
 use mathlib.Core.List.{List}
+use Rattle.refusal.specs.Refusals.{wrong-index, wrong-offset}
 use Rattle.refusal.specs.Exact.{Exact, Decides}
 use Rattle.refusal.proofs.Exact.{same, answer-exact, given-exact, exact-iff, below, equal, one-of}
 use Rattle.frame.specs.declared.Frame.{Frame}
@@ -21,9 +22,9 @@ words-exact : (r : Frame) (end place : ℕ) (w : ClassWords) → Exact (firstOf 
 unfolding firstOf middleOf placesOf
 words-exact r end place w =
     exact-iff
-    (given-exact 11 place (below (w .class) (r .types)) (given-exact 11 place (or-none-decides (w .superclass) (r .types)) (given-exact 8 place (or-absent-decides (r .start) end true (w .interfaces))
-    (given-exact 11 place (or-none-decides (w .source) (r .strings)) (given-exact 8 place (or-absent-decides (r .start) end true (w .directory)) (given-exact 8 place (or-absent-decides (r .start) end false (w .«data»))
-    (given-exact 8 place (or-absent-decides (r .start) end false (w .values)) (answer-exact _))))))))
+    (given-exact (wrong-index place) (below (w .class) (r .types)) (given-exact (wrong-index place) (or-none-decides (w .superclass) (r .types)) (given-exact (wrong-offset place) (or-absent-decides (r .start) end true (w .interfaces))
+    (given-exact (wrong-index place) (or-none-decides (w .source) (r .strings)) (given-exact (wrong-offset place) (or-absent-decides (r .start) end true (w .directory)) (given-exact (wrong-offset place) (or-absent-decides (r .start) end false (w .«data»))
+    (given-exact (wrong-offset place) (or-absent-decides (r .start) end false (w .values)) (answer-exact _))))))))
     (λ c h. (record { class = h .0; superclass = h .1 .0; interfaces = h .1 .1 .0; source = h .1 .1 .1 .0; directory = h .1 .1 .1 .1 .0; class-data = h .1 .1 .1 .1 .1 .0; values = h .1 .1 .1 .1 .1 .1 .0 }, h .1 .1 .1 .1 .1 .1 .1))
     (λ c h. let w = h .0 in (w .class, (w .superclass, (w .interfaces, (w .source, (w .directory, (w .class-data, (w .values, h .1))))))))
 

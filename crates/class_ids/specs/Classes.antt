@@ -3,6 +3,7 @@ use Prim.Native.Nat.{ℕ, _+_, _*_}
 use mathlib.Core.Bool.{Bool, true, false, cond, _||_}
 use mathlib.Core.List.{List}
 use lib.Dec.{ltb, eqb}
+use Rattle.refusal.specs.Refusals.{wrong-index, wrong-offset}
 use Rattle.refusal.specs.Outcome.{Outcome, answer, given}
 use Rattle.word.specs.Words.{u32At}
 use Rattle.word.specs.declared.Endian.{Endian}
@@ -47,24 +48,24 @@ classOf w = record {
 -- directory (8), class data (8), static values (8)
 unfoldable pub placesOf : ℕ → ℕ → ℕ → ClassWords → Outcome Class
 placesOf start end place w =
-    given (allowedOrAbsent start end true (w .directory)) 8 place
-    (given (allowedOrAbsent start end false (w .«data»)) 8 place
-    (given (allowedOrAbsent start end false (w .values)) 8 place
+    given (allowedOrAbsent start end true (w .directory)) (wrong-offset place)
+    (given (allowedOrAbsent start end false (w .«data»)) (wrong-offset place)
+    (given (allowedOrAbsent start end false (w .values)) (wrong-offset place)
     (answer (classOf w))))
 
 -- interfaces (8), source file (11 or none), then the places
 unfoldable pub middleOf : Frame → ℕ → ℕ → ClassWords → Outcome Class
-middleOf r end place w =
-    given (allowedOrAbsent (r .start) end true (w .interfaces)) 8 place
-    (given (indexOrNone (w .source) (r .strings)) 11 place
-    (placesOf (r .start) end place w))
+middleOf frame end place w =
+    given (allowedOrAbsent (frame .start) end true (w .interfaces)) (wrong-offset place)
+    (given (indexOrNone (w .source) (frame .strings)) (wrong-index place)
+    (placesOf (frame .start) end place w))
 
 -- class (11), superclass (11 or none), then the others in stored order
 unfoldable pub firstOf : Frame → ℕ → ℕ → ClassWords → Outcome Class
-firstOf r end place w =
-    given (ltb (w .class) (r .types)) 11 place
-    (given (indexOrNone (w .superclass) (r .types)) 11 place
-    (middleOf r end place w))
+firstOf frame end place w =
+    given (ltb (w .class) (frame .types)) (wrong-index place)
+    (given (indexOrNone (w .superclass) (frame .types)) (wrong-index place)
+    (middleOf frame end place w))
 
 unfoldable pub classAt : List ℕ → Frame → ℕ → ℕ → ℕ → Outcome Class
-classAt f r end offset n = firstOf r end (offset + 32 * n) (wordsAt f (r .order) offset n)
+classAt f frame end offset n = firstOf frame end (offset + 32 * n) (wordsAt f (frame .order) offset n)

@@ -13,15 +13,15 @@ use Rattle.class_ids.specs.Classes.{wordsAt, classOf}
 abbrev pub IndexOrNone : ℕ → ℕ → Type 0
 IndexOrNone v count = (v ≡ 0xffffffff) ⊎ (v < count)
 
-pub record ClassWordsRule (r : Frame) (end : ℕ) (w : ClassWords) : Type 0 where
-  pub class : w .class < r .types
-  pub superclass : IndexOrNone (w .superclass) (r .types)
-  pub interfaces : AllowedOrAbsent (r .start) end true (w .interfaces)
-  pub source : IndexOrNone (w .source) (r .strings)
-  pub directory : AllowedOrAbsent (r .start) end true (w .directory)
-  pub class-data : AllowedOrAbsent (r .start) end false (w .«data»)
-  pub values : AllowedOrAbsent (r .start) end false (w .values)
+pub record ClassWordsRule (frame : Frame) (end : ℕ) (w : ClassWords) : Type 0 where
+  pub class : w .class < frame .types
+  pub superclass : IndexOrNone (w .superclass) (frame .types)
+  pub interfaces : AllowedOrAbsent (frame .start) end true (w .interfaces)
+  pub source : IndexOrNone (w .source) (frame .strings)
+  pub directory : AllowedOrAbsent (frame .start) end true (w .directory)
+  pub class-data : AllowedOrAbsent (frame .start) end false (w .«data»)
+  pub values : AllowedOrAbsent (frame .start) end false (w .values)
 
-pub record ClassRule (f : List ℕ) (r : Frame) (end offset n : ℕ) (c : Class) : Type 0 where
-  pub stands : classOf (wordsAt f (r .order) offset n) ≡ c
-  pub rule : ClassWordsRule r end (wordsAt f (r .order) offset n)
+pub record ClassRule (f : List ℕ) (frame : Frame) (end offset n : ℕ) (c : Class) : Type 0 where
+  pub stands : classOf (wordsAt f (frame .order) offset n) ≡ c
+  pub rule : ClassWordsRule frame end (wordsAt f (frame .order) offset n)

@@ -109,12 +109,12 @@ fn places_of(start: usize, end: usize, place: usize, w: ClassWords) -> ClassAnsw
 }
 
 // The rules of the words before those: interfaces, source file.
-fn middle_of(r: Frame, end: usize, place: usize, w: ClassWords) -> ClassAnswer
-    ensures { λ a. ⌜ class-outcome a ≡ middleOf r end place w ⌝ }
+fn middle_of(frame: Frame, end: usize, place: usize, w: ClassWords) -> ClassAnswer
+    ensures { λ a. ⌜ class-outcome a ≡ middleOf frame end place w ⌝ }
 {
-    if frame::is_allowed_or_absent(r.start, end, true, w.interfaces as usize) {
-        if is_index_or_none(w.source, r.strings) {
-            return places_of(r.start, end, place, w);
+    if frame::is_allowed_or_absent(frame.start, end, true, w.interfaces as usize) {
+        if is_index_or_none(w.source, frame.strings) {
+            return places_of(frame.start, end, place, w);
         }
         return ClassAnswer::Refused(Refusal { number: 11, place });
     }
@@ -122,25 +122,25 @@ fn middle_of(r: Frame, end: usize, place: usize, w: ClassWords) -> ClassAnswer
 }
 
 // The rules of the words in stored order: class, superclass, then the others.
-fn first_of(r: Frame, end: usize, place: usize, w: ClassWords) -> ClassAnswer
-    ensures { λ a. ⌜ class-outcome a ≡ firstOf r end place w ⌝ }
+fn first_of(frame: Frame, end: usize, place: usize, w: ClassWords) -> ClassAnswer
+    ensures { λ a. ⌜ class-outcome a ≡ firstOf frame end place w ⌝ }
 {
-    if r.types <= w.class {
+    if frame.types <= w.class {
         return ClassAnswer::Refused(Refusal { number: 11, place });
     }
-    if is_index_or_none(w.superclass, r.types) {
-        return middle_of(r, end, place, w);
+    if is_index_or_none(w.superclass, frame.types) {
+        return middle_of(frame, end, place, w);
     }
     ClassAnswer::Refused(Refusal { number: 11, place })
 }
 
 // Class n of the table that begins at an offset.
-pub fn class_at(f: &[u8], r: Frame, end: usize, offset: u32, n: u32) -> ClassAnswer
-    ensures { λ a. ⌜ class-outcome a ≡ classAt (now (f .entry)) r end offset n ⌝ }
+pub fn class_at(f: &[u8], frame: Frame, end: usize, offset: u32, n: u32) -> ClassAnswer
+    ensures { λ a. ⌜ class-outcome a ≡ classAt (now (f .entry)) frame end offset n ⌝ }
 {
-    let order = r.order;
+    let order = frame.order;
     first_of(
-        r,
+        frame,
         end,
         offset as usize + 32 * n as usize,
         words_at(f, order, offset, n),

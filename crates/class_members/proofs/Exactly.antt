@@ -7,6 +7,7 @@ use mathlib.Core.Option.{Option, none, some}
 use mathlib.Core.List.{List, [], _∷_}
 use lib.ListN.{length, take}
 use native.Mathlib.Omega.{arith}
+use Rattle.refusal.specs.Refusals.{out-of-order, wrong-index, wrong-offset}
 use Rattle.refusal.specs.Outcome.{Outcome, answer, _>>=_}
 use Rattle.refusal.specs.Rows.{Found}
 use Rattle.refusal.specs.Exact.{Exact, Decides, Row, empty, first, At, here, there, Each, Rising}
@@ -32,7 +33,7 @@ apart-decides false d = decided-yes λ e. absurd (false≢true e)
 code-exact : (s : List ℕ) (code : Bool) (start item p : ℕ) → Exact (codeAt s code start item p) (λ (r : Found ℕ ℕ). CodeOffsetRule s code start p (r .item) (r .next))
 unfolding codeAt offsetAt
 code-exact s true start item p =
-    exact-iff (bind-exact _ _ (uleb-exact s item p) (λ c. given-exact 8 item (or-absent-decides start (length s) true (c .item)) (answer-exact c)))
+    exact-iff (bind-exact _ _ (uleb-exact s item p) (λ c. given-exact (wrong-offset item) (or-absent-decides start (length s) true (c .item)) (answer-exact c)))
     (λ r h. subst (λ (x : Found ℕ ℕ). CodeOffsetRule s true start p (x .item) (x .next)) (h .1 .1 .1) (h .1 .0, h .1 .1 .0))
     (λ r h. (r, (h .0, (h .1, refl))))
 code-exact s false start item p =
@@ -63,7 +64,7 @@ numbers-exact : (s : List ℕ) (j : MemberJudge) (item : ℕ) (t : Run) → Exac
 unfolding memberAt restAt
 numbers-exact s j item t =
     exact-iff
-    (bind-exact _ _ (uleb-exact s item (t .place)) (λ d. given-exact 15 item (apart-decides (t .later) (d .item)) (given-exact 11 item (below (t .last .index + d .item) (j .limit))
+    (bind-exact _ _ (uleb-exact s item (t .place)) (λ d. given-exact (out-of-order item) (apart-decides (t .later) (d .item)) (given-exact (wrong-index item) (below (t .last .index + d .item) (j .limit))
     (bind-exact _ _ (uleb-exact s item (d .next)) (λ f. bind-exact _ _ (code-exact s (j .code) (j .start) item (f .next)) (λ c. answer-exact (said-by t d f c)))))))
     (λ m h. record { d = h .0; f = h .1 .1 .1 .1 .0; c = h .1 .1 .1 .1 .1 .1 .0; stored = h .1 .0; apart-is = h .1 .1 .0; below-is = h .1 .1 .1 .0; flags = h .1 .1 .1 .1 .1 .0; code = h .1 .1 .1 .1 .1 .1 .1 .0; whole = h .1 .1 .1 .1 .1 .1 .1 .1 })
     (λ m h. (h .d, (h .stored, (h .apart-is, (h .below-is, (h .f, (h .flags, (h .c, (h .code, h .whole)))))))))

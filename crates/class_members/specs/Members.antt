@@ -4,6 +4,7 @@ use mathlib.Core.Bool.{Bool, true, false, cond}
 use mathlib.Core.List.{List}
 use lib.ListN.{length}
 use lib.Dec.{ltb}
+use Rattle.refusal.specs.Refusals.{out-of-order, wrong-index, wrong-offset}
 use Rattle.refusal.specs.Outcome.{Outcome, answer, _>>=_, given}
 use Rattle.refusal.specs.Rows.{Found, collect}
 use Rattle.refusal.specs.Choose.{choose}
@@ -20,7 +21,7 @@ apart later difference = cond later (ltb 0 difference) true
 unfoldable pub offsetAt : List ℕ → ℕ → ℕ → ℕ → Outcome (Found ℕ ℕ)
 offsetAt s start item p = do
   c ← ulebAt s item p
-  given (allowedOrAbsent start (length s) true (c .item)) 8 item (answer c)
+  given (allowedOrAbsent start (length s) true (c .item)) (wrong-offset item) (answer c)
 
 -- a method has a code offset, a field has none
 unfoldable pub codeAt : List ℕ → Bool → ℕ → ℕ → ℕ → Outcome (Found ℕ ℕ)
@@ -37,8 +38,8 @@ restAt s j item index p = do
 unfoldable pub memberAt : List ℕ → MemberJudge → ℕ → ℕ → Bool → ℕ → Outcome (Found Member ℕ)
 memberAt s j item base later p = do
   d ← ulebAt s item p
-  given (apart later (d .item)) 15 item
-      (given (ltb (base + d .item) (j .limit)) 11 item
+  given (apart later (d .item)) (out-of-order item)
+      (given (ltb (base + d .item) (j .limit)) (wrong-index item)
       (restAt s j item (base + d .item) (d .next)))
 
 -- where the going over a list stands: the next place, and the last member if there was one

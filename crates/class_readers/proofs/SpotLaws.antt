@@ -11,7 +11,7 @@ use Rattle.refusal.specs.Rows.{Found}
 use Rattle.refusal.proofs.Laws.{said, tests, calls}
 use Rattle.frame.specs.declared.Frame.{Frame}
 use Rattle.header.specs.declared.Header.{Header}
-use Rattle.header.specs.Header.{section, frame-of}
+use Rattle.header.specs.Header.{up-to-end, plain-frame}
 use Rattle.header.proofs.Laws.{laws as header-laws}
 use Rattle.class_ids.proofs.Laws.{laws as class-laws}
 use Rattle.class_data.specs.declared.Counts.{Counts}
@@ -43,20 +43,20 @@ goes-onward k h = h
 
 -- what a call said of such an item, taken on
 pub framed : {X A B : Type 0} (means : X → Outcome A) (reading : List ℕ → Frame → Outcome A) (f : List ℕ) (h : Header) {s : List ℕ} {r : Frame} {x c : X} {y : Outcome B} (k : A → Outcome B)
-    → s ≡ section f h → r ≡ frame-of h 0 → means x ≡ reading s r → x ≡ c → y ≡ (means c >>= k) → y ≡ (reading (section f h) (frame-of h 0) >>= k)
+    → s ≡ up-to-end f h → r ≡ plain-frame h → means x ≡ reading s r → x ≡ c → y ≡ (means c >>= k) → y ≡ (reading (up-to-end f h) (plain-frame h) >>= k)
 framed means reading f h k e g q t w = said means k (q ∙ (λ i. reading (e i) (g i))) t w
 
 module _ (f : List ℕ) (h : Header) (p : ℕ) {s : List ℕ} {r : Frame} {B : Type 0} {y : Outcome B} where
-  pub data-framed : {x c : DataAnswer} (k : Found Counts ℕ → Outcome B) → s ≡ section f h → r ≡ frame-of h 0
-      → data-outcome x ≡ extentAt s r p → x ≡ c → y ≡ (data-outcome c >>= k) → y ≡ (extentAt (section f h) (frame-of h 0) p >>= k)
+  pub data-framed : {x c : DataAnswer} (k : Found Counts ℕ → Outcome B) → s ≡ up-to-end f h → r ≡ plain-frame h
+      → data-outcome x ≡ extentAt s r p → x ≡ c → y ≡ (data-outcome c >>= k) → y ≡ (extentAt (up-to-end f h) (plain-frame h) p >>= k)
   data-framed = framed data-outcome (λ (l : List ℕ) (t : Frame). extentAt l t p) f h
 
-  pub member-framed : {x c : MemberAnswer} (list n : ℕ) (k : Member → Outcome B) → s ≡ section f h → r ≡ frame-of h 0
-      → member-outcome x ≡ memberOf s r p list n → x ≡ c → y ≡ (member-outcome c >>= k) → y ≡ (memberOf (section f h) (frame-of h 0) p list n >>= k)
+  pub member-framed : {x c : MemberAnswer} (list n : ℕ) (k : Member → Outcome B) → s ≡ up-to-end f h → r ≡ plain-frame h
+      → member-outcome x ≡ memberOf s r p list n → x ≡ c → y ≡ (member-outcome c >>= k) → y ≡ (memberOf (up-to-end f h) (plain-frame h) p list n >>= k)
   member-framed list n = framed member-outcome (λ (l : List ℕ) (t : Frame). memberOf l t p list n) f h
 
-  pub code-framed : {x c : CodeAnswer} (k : Outline → Outcome B) → s ≡ section f h → r ≡ frame-of h 0
-      → code-outcome x ≡ outlineAt s r p → x ≡ c → y ≡ (code-outcome c >>= k) → y ≡ (outlineAt (section f h) (frame-of h 0) p >>= k)
+  pub code-framed : {x c : CodeAnswer} (k : Outline → Outcome B) → s ≡ up-to-end f h → r ≡ plain-frame h
+      → code-outcome x ≡ outlineAt s r p → x ≡ c → y ≡ (code-outcome c >>= k) → y ≡ (outlineAt (up-to-end f h) (plain-frame h) p >>= k)
   code-framed = framed code-outcome (λ (l : List ℕ) (t : Frame). outlineAt l t p) f h
 
 -- a reader that begins where an item lies, and one of what lies there

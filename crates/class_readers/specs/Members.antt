@@ -4,7 +4,7 @@ use mathlib.Core.Bool.{false}
 use mathlib.Core.Option.{Option, none, some}
 use mathlib.Core.List.{List}
 use Rattle.refusal.specs.Outcome.{Outcome, answer, refused, _>>=_}
-use Rattle.header.specs.Header.{section, frame-of}
+use Rattle.header.specs.Header.{up-to-end, plain-frame}
 use Rattle.access_flags.specs.Flags.{written, content}
 use Rattle.class_data.specs.declared.Counts.{Counts}
 use Rattle.class_members.specs.declared.Member.{Member}
@@ -15,7 +15,7 @@ use Rattle.class_readers.specs.Spots.{onward, dataSpot}
 -- the four counts of class data, or none
 unfoldable pub countsUnder : List ℕ → Spot → Outcome (Option Counts)
 countsUnder f s = do
-  d ← extentAt (section f (s .header)) (frame-of (s .header) 0) (s .place)
+  d ← extentAt (up-to-end f (s .header)) (plain-frame (s .header)) (s .place)
   answer (some (d .item))
 
 unfoldable pub classData : List ℕ → ℕ → Outcome (Option Counts)
@@ -24,7 +24,7 @@ classData f c = dataSpot f c >>= onward (countsUnder f)
 -- member k of a list: of a class without class data none, and not 7
 unfoldable pub memberUnder : List ℕ → ℕ → ℕ → Spot → Outcome (Option Member)
 memberUnder f list k s = do
-  m ← memberOf (section f (s .header)) (frame-of (s .header) 0) (s .place) list k
+  m ← memberOf (up-to-end f (s .header)) (plain-frame (s .header)) (s .place) list k
   answer (some m)
 
 unfoldable pub memberNumber : List ℕ → ℕ → ℕ → ℕ → Outcome (Option Member)

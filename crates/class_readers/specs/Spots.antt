@@ -4,9 +4,10 @@ use Prim.Native.Nat.{ℕ}
 use mathlib.Core.Option.{Option, none, some}
 use mathlib.Core.List.{List}
 use lib.Dec.{leb}
+use Rattle.refusal.specs.Refusals.{not-there}
 use Rattle.refusal.specs.Outcome.{Outcome, answer, _>>=_, given, present}
 use Rattle.header.specs.declared.Header.{Header}
-use Rattle.header.specs.Header.{headerAt, section, frame-of}
+use Rattle.header.specs.Header.{headerAt, up-to-end, plain-frame}
 use Rattle.class_data.specs.Data.{memberOf}
 use Rattle.code_item.specs.Code.{outlineAt}
 use Rattle.table_readers.specs.Tables.{classIn}
@@ -19,13 +20,13 @@ onward k (some a) = k a
 
 -- "Offset 0 means absent for .. class data, .. code, debug information"
 unfoldable pub spotAt : Header → ℕ → Outcome (Option Spot)
-spotAt h at = present at (answer (record { header = h; place = at }))
+spotAt header at = present at (answer (record { header = header; place = at }))
 
 -- class data, by the number of its class
 unfoldable pub dataIn : List ℕ → ℕ → Header → Outcome (Option Spot)
-dataIn f c h = do
-  r ← classIn f c h
-  spotAt h (r .data)
+dataIn f c header = do
+  r ← classIn f c header
+  spotAt header (r .data)
 
 unfoldable pub dataSpot : List ℕ → ℕ → Outcome (Option Spot)
 dataSpot f c = headerAt f >>= dataIn f c
@@ -33,8 +34,8 @@ dataSpot f c = headerAt f >>= dataIn f c
 -- code, by list and member number: the class data's own rules first, then 7. The code of a field, lists 0 and 1, is not there
 unfoldable pub methodUnder : List ℕ → ℕ → ℕ → Spot → Outcome (Option Spot)
 methodUnder f list k s = do
-  m ← memberOf (section f (s .header)) (frame-of (s .header) 0) (s .place) list k
-  given (leb 2 list) 7 0 (spotAt (s .header) (m .code))
+  m ← memberOf (up-to-end f (s .header)) (plain-frame (s .header)) (s .place) list k
+  given (leb 2 list) not-there (spotAt (s .header) (m .code))
 
 unfoldable pub methodSpot : List ℕ → ℕ → ℕ → ℕ → Outcome (Option Spot)
 methodSpot f c list k = dataSpot f c >>= onward (methodUnder f list k)
@@ -42,7 +43,7 @@ methodSpot f c list k = dataSpot f c >>= onward (methodUnder f list k)
 -- debug information: the code item's own rules first
 unfoldable pub debugUnder : List ℕ → Spot → Outcome (Option Spot)
 debugUnder f s = do
-  o ← outlineAt (section f (s .header)) (frame-of (s .header) 0) (s .place)
+  o ← outlineAt (up-to-end f (s .header)) (plain-frame (s .header)) (s .place)
   spotAt (s .header) (o .head .debug)
 
 unfoldable pub debugSpot : List ℕ → ℕ → ℕ → ℕ → Outcome (Option Spot)

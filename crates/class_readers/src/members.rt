@@ -17,7 +17,7 @@ fn counts_under(f: &[u8], s: Spot) -> MaybeDataAnswer
 {
     let h = s.header;
     match class_data::class_data_at(
-        header::section_of(f, h),
+        header::up_to_end(f, h),
         header::frame_of(h, 0),
         s.place as usize,
     ) {
@@ -42,7 +42,7 @@ fn member_under(f: &[u8], s: Spot, list: u32, k: u32) -> MaybeMemberAnswer
 {
     let h = s.header;
     match class_data::member_at(
-        header::section_of(f, h),
+        header::up_to_end(f, h),
         header::frame_of(h, 0),
         s.place as usize,
         list,

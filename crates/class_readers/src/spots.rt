@@ -12,24 +12,24 @@ ghost use Rattle.class_readers.specs.Spots.{spotAt, dataIn, dataSpot, me
 ghost use Rattle.class_readers.specs.Answers.{spot-outcome};
 
 // An offset of 0 means absent.
-fn spot_of(h: Header, at: u32) -> SpotAnswer
-    ensures { λ r. ⌜ spot-outcome r ≡ spotAt h at ⌝ }
+fn spot_of(header: Header, at: u32) -> SpotAnswer
+    ensures { λ r. ⌜ spot-outcome r ≡ spotAt header at ⌝ }
 {
     if 0 < at {
         return SpotAnswer::Got(Spot {
-            header: h,
+            header: header,
             place: at,
         });
     }
     SpotAnswer::Absent
 }
 
-fn data_in(f: &[u8], h: Header, c: u32) -> SpotAnswer
-    ensures { λ r. ⌜ spot-outcome r ≡ dataIn (now (f .entry)) c h ⌝ }
+fn data_in(f: &[u8], header: Header, c: u32) -> SpotAnswer
+    ensures { λ r. ⌜ spot-outcome r ≡ dataIn (now (f .entry)) c header ⌝ }
 {
-    match table_readers::class_in(f, h, c) {
+    match table_readers::class_in(f, header, c) {
         ClassAnswer::Refused(r) => SpotAnswer::Refused(r),
-        ClassAnswer::Got(found) => spot_of(h, found.data),
+        ClassAnswer::Got(found) => spot_of(header, found.data),
     }
 }
 
@@ -49,7 +49,7 @@ fn method_under(f: &[u8], s: Spot, list: u32, k: u32) -> SpotAnswer
 {
     let h = s.header;
     match class_data::member_at(
-        header::section_of(f, h),
+        header::up_to_end(f, h),
         header::frame_of(h, 0),
         s.place as usize,
         list,
@@ -85,7 +85,7 @@ fn debug_under(f: &[u8], s: Spot) -> SpotAnswer
 {
     let h = s.header;
     match code_item::code_at(
-        header::section_of(f, h),
+        header::up_to_end(f, h),
         header::frame_of(h, 0),
         s.place as usize,
     ) {

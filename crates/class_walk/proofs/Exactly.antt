@@ -8,7 +8,7 @@ use Rattle.refusal.proofs.Exact.{same, answer-exact, bind-exact, exact-iff, pre
 use Rattle.refusal.proofs.Through.{through-exact}
 use Rattle.frame.specs.declared.Frame.{Frame}
 use Rattle.header.specs.declared.Header.{Header}
-use Rattle.header.specs.Header.{section, frame-of}
+use Rattle.header.specs.Header.{up-to-end, frame-of, plain-frame}
 use Rattle.type_list.proofs.Exactly.{types-below-exact}
 use Rattle.class_ids.proofs.Exactly.{class-exact}
 use Rattle.class_members.specs.declared.Member.{Member}
@@ -55,11 +55,11 @@ module _ (f : List ℕ) (h : Header) (handles n : ℕ) where
   pub class-below-exact : Exact (classBelow f h handles n) (ClassBelowRule f h handles n)
   unfolding classBelow below annotationsAt dataAt staticsAt
   class-below-exact =
-      exact-iff (bind-exact _ _ (class-exact f (frame-of h 0) (h .end) (h .classes .offset) n) (λ c.
+      exact-iff (bind-exact _ _ (class-exact f (plain-frame h) (h .end) (h .classes .offset) n) (λ c.
       bind-exact _ _ (types-below-exact f h (c .interfaces)) (λ i.
-      bind-exact _ _ (present-exact (c .directory) (directory-below-exact (section f h) (frame-of h handles) (c .directory))) (λ a.
-      bind-exact _ _ (present-exact (c .«data») (data-below-exact (section f h) (frame-of h 0) (c .«data»))) (λ d.
-      bind-exact _ _ (present-exact (c .values) (values-exact (section f h) (walkOf (frame-of h handles) (c .values)) (c .values))) (λ v. answer-exact _))))))
+      bind-exact _ _ (present-exact (c .directory) (directory-below-exact (up-to-end f h) (frame-of h handles) (c .directory))) (λ a.
+      bind-exact _ _ (present-exact (c .«data») (data-below-exact (up-to-end f h) (plain-frame h) (c .«data»))) (λ d.
+      bind-exact _ _ (present-exact (c .values) (values-exact (up-to-end f h) (walkOf (frame-of h handles) (c .values)) (c .values))) (λ v. answer-exact _))))))
       (λ b p. subst (ClassBelowRule f h handles n) (p .1 .1 .1 .1 .1 .1 .1 .1 .1 .1)
       (record { own = p .1 .0; interfaces = p .1 .1 .1 .0; annotations = p .1 .1 .1 .1 .1 .0; members = p .1 .1 .1 .1 .1 .1 .1 .0; values = p .1 .1 .1 .1 .1 .1 .1 .1 .1 .0 }))
       (λ b p. (b .own, (p .own, (b .interfaces, (p .interfaces, (b .annotations, (p .annotations, (b .members, (p .members, (b .values, (p .values, refl)))))))))))

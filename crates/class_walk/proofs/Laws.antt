@@ -20,7 +20,7 @@ use Rattle.refusal.proofs.Through.{gone-over}
 use Rattle.refusal.proofs.Loops.{Gather, gather-first, gather-next, gather-stop, gather-done}
 use Rattle.frame.specs.declared.Frame.{Frame}
 use Rattle.header.specs.declared.Header.{Header}
-use Rattle.header.specs.Header.{section, frame-of}
+use Rattle.header.specs.Header.{up-to-end, frame-of, plain-frame}
 use Rattle.class_ids.specs.declared.Class.{Class}
 use Rattle.class_ids.specs.Classes.{classAt}
 use Rattle.class_ids.proofs.Laws.{laws as class-laws}
@@ -184,19 +184,19 @@ pub on-passed : {B : Type 0} {x c : PassedAnswer} {o : Outcome ℕ} {y : Outcome
 on-passed = said passed-outcome
 
 -- ---- directories and static values that may be absent
-module _ (f : List ℕ) (h : Header) (handles at : ℕ) {s : List ℕ} (e : s ≡ section f h) where
-  pub directory-framed : {r : Frame} {y : Outcome Unit} → r ≡ frame-of h handles → y ≡ (directoryBelow s r at >>= accepted) → y ≡ (directoryBelow (section f h) (frame-of h handles) at >>= accepted)
+module _ (f : List ℕ) (h : Header) (handles at : ℕ) {s : List ℕ} (e : s ≡ up-to-end f h) where
+  pub directory-framed : {r : Frame} {y : Outcome Unit} → r ≡ frame-of h handles → y ≡ (directoryBelow s r at >>= accepted) → y ≡ (directoryBelow (up-to-end f h) (frame-of h handles) at >>= accepted)
   directory-framed g q = q ∙ λ i. directoryBelow (e i) (g i) at >>= accepted
 
-  pub data-framed : {r : Frame} {y : Outcome Unit} → r ≡ frame-of h 0 → y ≡ (dataBelow s r at >>= accepted) → y ≡ (dataBelow (section f h) (frame-of h 0) at >>= accepted)
+  pub data-framed : {r : Frame} {y : Outcome Unit} → r ≡ plain-frame h → y ≡ (dataBelow s r at >>= accepted) → y ≡ (dataBelow (up-to-end f h) (plain-frame h) at >>= accepted)
   data-framed g q = q ∙ λ i. dataBelow (e i) (g i) at >>= accepted
 
-  pub values-framed : {r : Frame} {w : Walk} {y : Outcome Unit} → r ≡ frame-of h handles → w ≡ walkOf r at → y ≡ (pastArray s w deepest at >>= accepted) → y ≡ (valuesAt (section f h) (walkOf (frame-of h handles) at) at >>= accepted)
+  pub values-framed : {r : Frame} {w : Walk} {y : Outcome Unit} → r ≡ frame-of h handles → w ≡ walkOf r at → y ≡ (pastArray s w deepest at >>= accepted) → y ≡ (valuesAt (up-to-end f h) (walkOf (frame-of h handles) at) at >>= accepted)
   unfolding valuesAt
   values-framed g w q =
       q ∙ (λ i. pastArray (e i) ((w ∙ ap (λ (x : Frame). walkOf x at) g) i) deepest at >>= accepted)
-      ∙ made-kept _ (arrayAt (section f h) (walkOf (frame-of h handles) at) deepest at)
-      ∙ sym (made-kept _ (arrayAt (section f h) (walkOf (frame-of h handles) at) deepest at))
+      ∙ made-kept _ (arrayAt (up-to-end f h) (walkOf (frame-of h handles) at) deepest at)
+      ∙ sym (made-kept _ (arrayAt (up-to-end f h) (walkOf (frame-of h handles) at) deepest at))
 
 -- ---- a class
 module _ (f : List ℕ) (h : Header) (handles : ℕ) where
@@ -208,12 +208,12 @@ module _ (f : List ℕ) (h : Header) (handles : ℕ) where
       kept-on (dataAt f h handles (c .«data»)) _ _ _ refl (λ d t.
       made-kept _ (staticsAt f h handles (c .values)))))
 
-  pub class-by : (n : ℕ) {r : Frame} {y : Outcome Unit} → r ≡ frame-of h 0
+  pub class-by : (n : ℕ) {r : Frame} {y : Outcome Unit} → r ≡ plain-frame h
       → y ≡ (classAt f r (h .end) (h .classes .offset) n >>= λ (c : Class). belowPass f h handles (c .interfaces) (c .directory) (c .«data») (c .values)) → y ≡ (classBelow f h handles n >>= accepted)
   unfolding classBelow
   class-by n {r} g e =
       e ∙ (λ i. classAt f (g i) (h .end) (h .classes .offset) n >>= λ (c : Class). sym (below-kept c) i)
-      ∙ sym (bind-assoc (classAt f (frame-of h 0) (h .end) (h .classes .offset) n) (below f h handles) accepted)
+      ∙ sym (bind-assoc (classAt f (plain-frame h) (h .end) (h .classes .offset) n) (below f h handles) accepted)
 
 pub ruleset body-laws = (debug-by, on-debug, body-by, on-code, kept, calls, tests, needs)
 

@@ -4,7 +4,7 @@ use mathlib.Core.Option.{Option}
 use mathlib.Core.List.{List}
 use Rattle.refusal.specs.Outcome.{Outcome, answer, _>>=_, present, accepted}
 use Rattle.header.specs.declared.Header.{Header}
-use Rattle.header.specs.Header.{section, frame-of}
+use Rattle.header.specs.Header.{up-to-end, frame-of, plain-frame}
 use Rattle.type_list.specs.Below.{typesBelow, typesAccepted}
 use Rattle.class_ids.specs.declared.Class.{Class}
 use Rattle.class_ids.specs.Classes.{classAt}
@@ -29,19 +29,19 @@ valuesAt s w p = do
   a ← arrayAt s w deepest p
   answer (a .item)
 
-module _ (f : List ℕ) (h : Header) (handles : ℕ) where
+module _ (f : List ℕ) (header : Header) (handles : ℕ) where
   unfoldable pub annotationsAt : ℕ → Outcome (Option Annotated)
-  annotationsAt at = present at (directoryBelow (section f h) (frame-of h handles) at)
+  annotationsAt at = present at (directoryBelow (up-to-end f header) (frame-of header handles) at)
 
   unfoldable pub dataAt : ℕ → Outcome (Option DataBelow)
-  dataAt at = present at (dataBelow (section f h) (frame-of h 0) at)
+  dataAt at = present at (dataBelow (up-to-end f header) (plain-frame header) at)
 
   unfoldable pub staticsAt : ℕ → Outcome (Option (List Tree))
-  staticsAt at = present at (valuesAt (section f h) (walkOf (frame-of h handles) at) at)
+  staticsAt at = present at (valuesAt (up-to-end f header) (walkOf (frame-of header handles) at) at)
 
   unfoldable pub below : Class → Outcome ClassBelow
   below c = do
-    i ← typesBelow f h (c .interfaces)
+    i ← typesBelow f header (c .interfaces)
     a ← annotationsAt (c .directory)
     d ← dataAt (c .«data»)
     v ← staticsAt (c .values)
@@ -49,7 +49,7 @@ module _ (f : List ℕ) (h : Header) (handles : ℕ) where
 
   -- class n
   unfoldable pub classBelow : ℕ → Outcome ClassBelow
-  classBelow n = classAt f (frame-of h 0) (h .end) (h .classes .offset) n >>= below
+  classBelow n = classAt f (plain-frame header) (header .end) (header .classes .offset) n >>= below
 
   -- ---- stages of the code: that there is an answer, by the four offsets
   abbrev pub annotationsAccepted : ℕ → Outcome Unit
@@ -63,7 +63,7 @@ module _ (f : List ℕ) (h : Header) (handles : ℕ) where
 
   unfoldable pub belowPass : ℕ → ℕ → ℕ → ℕ → Outcome Unit
   belowPass interfaces directory members values = do
-    u ← typesAccepted f h interfaces
+    u ← typesAccepted f header interfaces
     u ← annotationsAccepted directory
     u ← membersAccepted members
     staticsAccepted values

@@ -23,12 +23,12 @@ pub record DataBelow : Type 0 where
   pub directs : List (Option Body)
   pub virtuals : List (Option Body)
 
-module _ (s : List ℕ) (f : Frame) where
+module _ (s : List ℕ) (frame : Frame) where
   -- "Own rules come first, then the items pointed at": the code item whole before its debug information
   unfoldable pub bodyAt : ℕ → Outcome Body
   bodyAt item = do
-    c ← codeAt s f item
-    d ← present (c .head .debug) (debugAt s (f .strings) (c .head .debug))
+    c ← codeAt s frame item
+    d ← present (c .head .debug) (debugAt s (frame .strings) (c .head .debug))
     answer (record { code = c; debug = d })
 
   unfoldable pub methodBelow : Member → Outcome (Option Body)
@@ -37,7 +37,7 @@ module _ (s : List ℕ) (f : Frame) where
   -- all four lists before any code; direct methods before virtual ones
   unfoldable pub dataBelow : ℕ → Outcome DataBelow
   dataBelow item = do
-    d ← classDataAt s f item
+    d ← classDataAt s frame item
     x ← through methodBelow (d .directs)
     y ← through methodBelow (d .virtuals)
     answer (record { members = d; directs = x; virtuals = y })
@@ -54,7 +54,7 @@ module _ (s : List ℕ) (f : Frame) where
 
   unfoldable pub methodsPass : ℕ → ℕ → ℕ → Outcome ℕ
   methodsPass item from count = do
-    r ← collect count (with-below (stepAt s (methods-judge f) item) methodBelow) (begin from)
+    r ← collect count (with-below (stepAt s (methods-judge frame) item) methodBelow) (begin from)
     answer (r .next .place)
 
   unfoldable pub bothPass : ℕ → Methods → Outcome Unit

@@ -5,7 +5,7 @@ use mathlib.Core.List.{List}
 use Rattle.refusal.specs.Exact.{Present, Alike}
 use Rattle.frame.specs.declared.Frame.{Frame}
 use Rattle.header.specs.declared.Header.{Header}
-use Rattle.header.specs.Header.{section, frame-of}
+use Rattle.header.specs.Header.{up-to-end, frame-of, plain-frame}
 use Rattle.type_list.specs.Rules.{TypesBelowRule}
 use Rattle.class_ids.specs.Rules.{ClassRule}
 use Rattle.class_members.specs.declared.Member.{Member}
@@ -20,17 +20,17 @@ use Rattle.annotation_walk.specs.Rules.{DirectoryBelow}
 use Rattle.class_walk.specs.Methods.{Body, DataBelow}
 use Rattle.class_walk.specs.Classes.{ClassBelow}
 
-module _ (s : List ℕ) (f : Frame) where
+module _ (s : List ℕ) (frame : Frame) where
   pub record BodyRule (item : ℕ) (b : Body) : Type 0 where
-    pub code : CodeRule s f item (b .code)
-    pub debug : Present (DebugRule s (f .strings) (b .code .head .debug)) (b .code .head .debug) (b .debug)
+    pub code : CodeRule s frame item (b .code)
+    pub debug : Present (DebugRule s (frame .strings) (b .code .head .debug)) (b .code .head .debug) (b .debug)
 
   -- the code of a method, none exactly where its offset is 0
   abbrev pub MethodRule : Member → Option Body → Type 0
   MethodRule m = Present (BodyRule (m .code)) (m .code)
 
   pub record DataBelowRule (item : ℕ) (d : DataBelow) : Type 0 where
-    pub members : DataRule s f item (d .members)
+    pub members : DataRule s frame item (d .members)
     pub directs : Alike MethodRule (d .members .directs) (d .directs)
     pub virtuals : Alike MethodRule (d .members .virtuals) (d .virtuals)
 
@@ -40,9 +40,9 @@ pub record ValuesRule (s : List ℕ) (w : Walk) (p : ℕ) (l : List Tree) : Type
   pub body : ArrayRule s w p l ends
 
 -- class n and all that it leads to
-pub record ClassBelowRule (f : List ℕ) (h : Header) (handles n : ℕ) (c : ClassBelow) : Type 0 where
-  pub own : ClassRule f (frame-of h 0) (h .end) (h .classes .offset) n (c .own)
-  pub interfaces : TypesBelowRule f h (c .own .interfaces) (c .interfaces)
-  pub annotations : Present (DirectoryBelow (section f h) (frame-of h handles) (c .own .directory)) (c .own .directory) (c .annotations)
-  pub members : Present (DataBelowRule (section f h) (frame-of h 0) (c .own .«data»)) (c .own .«data») (c .members)
-  pub values : Present (ValuesRule (section f h) (walkOf (frame-of h handles) (c .own .values)) (c .own .values)) (c .own .values) (c .values)
+pub record ClassBelowRule (f : List ℕ) (header : Header) (handles n : ℕ) (c : ClassBelow) : Type 0 where
+  pub own : ClassRule f (plain-frame header) (header .end) (header .classes .offset) n (c .own)
+  pub interfaces : TypesBelowRule f header (c .own .interfaces) (c .interfaces)
+  pub annotations : Present (DirectoryBelow (up-to-end f header) (frame-of header handles) (c .own .directory)) (c .own .directory) (c .annotations)
+  pub members : Present (DataBelowRule (up-to-end f header) (plain-frame header) (c .own .«data»)) (c .own .«data») (c .members)
+  pub values : Present (ValuesRule (up-to-end f header) (walkOf (frame-of header handles) (c .own .values)) (c .own .values)) (c .own .values) (c .values)

@@ -43,36 +43,36 @@ fn debug_below(s: &[u8], strings: u32, offset: u32) -> CheckAnswer
 }
 
 // A code item and its debug information.
-fn check_body(s: &[u8], f: Frame, item: usize) -> CheckAnswer
-    ensures { λ r. ⌜ checked-outcome r ≡ bodyAccepted (now (s .entry)) f item ⌝ }
+fn check_body(s: &[u8], frame: Frame, item: usize) -> CheckAnswer
+    ensures { λ r. ⌜ checked-outcome r ≡ bodyAccepted (now (s .entry)) frame item ⌝ }
 {
-    match code_item::code_at(s, f, item) {
+    match code_item::code_at(s, frame, item) {
         CodeAnswer::Refused(r) => CheckAnswer::Refused(r),
         CodeAnswer::Got(o) => {
             let head = o.head;
-            debug_below(s, f.strings, head.debug)
+            debug_below(s, frame.strings, head.debug)
         }
     }
 }
 
 // The body of a method, if it is not absent.
-fn method_below(s: &[u8], f: Frame, code: u32) -> CheckAnswer
-    ensures { λ r. ⌜ checked-outcome r ≡ methodAccepted (now (s .entry)) f code ⌝ }
+fn method_below(s: &[u8], frame: Frame, code: u32) -> CheckAnswer
+    ensures { λ r. ⌜ checked-outcome r ≡ methodAccepted (now (s .entry)) frame code ⌝ }
 {
     if code <= 0 {
         return CheckAnswer::Accepted;
     }
-    check_body(s, f, code as usize)
+    check_body(s, frame, code as usize)
 }
 
 // A list of methods once more, with the body of each.
-fn methods_pass(s: &[u8], f: Frame, item: usize, from: usize, count: u32) -> PassedAnswer
-    ensures { λ r. ⌜ passed-outcome r ≡ methodsPass (now (s .entry)) f item from count ⌝ }
+fn methods_pass(s: &[u8], frame: Frame, item: usize, from: usize, count: u32) -> PassedAnswer
+    ensures { λ r. ⌜ passed-outcome r ≡ methodsPass (now (s .entry)) frame item from count ⌝ }
 {
     let judge = MemberJudge {
-        limit: f.methods,
+        limit: frame.methods,
         code: true,
-        start: f.start,
+        start: frame.start,
     };
     let mut p = from;
     let mut last: u32 = 0;
@@ -83,7 +83,7 @@ fn methods_pass(s: &[u8], f: Frame, item: usize, from: usize, count: u32) -> Pas
             MemberFoundAnswer::Refused(r) => {
                 return PassedAnswer::Refused(r);
             }
-            MemberFoundAnswer::Got { member, next } => match method_below(s, f, member.code) {
+            MemberFoundAnswer::Got { member, next } => match method_below(s, frame, member.code) {
                 CheckAnswer::Refused(r) => {
                     return PassedAnswer::Refused(r);
                 }
@@ -100,12 +100,12 @@ fn methods_pass(s: &[u8], f: Frame, item: usize, from: usize, count: u32) -> Pas
 }
 
 // Direct methods, then virtual ones.
-fn both_pass(s: &[u8], f: Frame, item: usize, m: Methods) -> CheckAnswer
-    ensures { λ r. ⌜ checked-outcome r ≡ bothPass (now (s .entry)) f item m ⌝ }
+fn both_pass(s: &[u8], frame: Frame, item: usize, m: Methods) -> CheckAnswer
+    ensures { λ r. ⌜ checked-outcome r ≡ bothPass (now (s .entry)) frame item m ⌝ }
 {
-    match methods_pass(s, f, item, m.from, m.directs) {
+    match methods_pass(s, frame, item, m.from, m.directs) {
         PassedAnswer::Refused(r) => CheckAnswer::Refused(r),
-        PassedAnswer::To(middle) => match methods_pass(s, f, item, middle, m.virtuals) {
+        PassedAnswer::To(middle) => match methods_pass(s, frame, item, middle, m.virtuals) {
             PassedAnswer::Refused(r) => CheckAnswer::Refused(r),
             PassedAnswer::To(_) => CheckAnswer::Accepted,
         },
@@ -113,50 +113,50 @@ fn both_pass(s: &[u8], f: Frame, item: usize, m: Methods) -> CheckAnswer
 }
 
 // Class data with all below it.
-pub fn check_data(s: &[u8], f: Frame, item: usize) -> CheckAnswer
-    ensures { λ r. ⌜ checked-outcome r ≡ dataAccepted (now (s .entry)) f item ⌝ }
+fn check_data(s: &[u8], frame: Frame, item: usize) -> CheckAnswer
+    ensures { λ r. ⌜ checked-outcome r ≡ dataAccepted (now (s .entry)) frame item ⌝ }
 {
-    match class_data::methods_at(s, f, item) {
+    match class_data::methods_at(s, frame, item) {
         MethodsAnswer::Refused(r) => CheckAnswer::Refused(r),
-        MethodsAnswer::Got(m) => both_pass(s, f, item, m),
+        MethodsAnswer::Got(m) => both_pass(s, frame, item, m),
     }
 }
 
-fn annotations_below(f: &[u8], h: Header, handles: u32, at: u32) -> CheckAnswer
-    ensures { λ r. ⌜ checked-outcome r ≡ annotationsAccepted (now (f .entry)) h handles at ⌝ }
+fn annotations_below(f: &[u8], header: Header, handles: u32, at: u32) -> CheckAnswer
+    ensures { λ r. ⌜ checked-outcome r ≡ annotationsAccepted (now (f .entry)) header handles at ⌝ }
 {
     if at <= 0 {
         return CheckAnswer::Accepted;
     }
     annotation_walk::check_directory(
-        header::section_of(f, h),
-        header::frame_of(h, handles),
+        header::up_to_end(f, header),
+        header::frame_of(header, handles),
         at as usize,
     )
 }
 
-fn data_below(f: &[u8], h: Header, handles: u32, at: u32) -> CheckAnswer
-    ensures { λ r. ⌜ checked-outcome r ≡ membersAccepted (now (f .entry)) h handles at ⌝ }
+fn data_below(f: &[u8], header: Header, handles: u32, at: u32) -> CheckAnswer
+    ensures { λ r. ⌜ checked-outcome r ≡ membersAccepted (now (f .entry)) header handles at ⌝ }
 {
     if at <= 0 {
         return CheckAnswer::Accepted;
     }
     check_data(
-        header::section_of(f, h),
-        header::frame_of(h, 0),
+        header::up_to_end(f, header),
+        header::frame_of(header, 0),
         at as usize,
     )
 }
 
-fn values_below(f: &[u8], h: Header, handles: u32, at: u32) -> CheckAnswer
-    ensures { λ r. ⌜ checked-outcome r ≡ staticsAccepted (now (f .entry)) h handles at ⌝ }
+fn values_below(f: &[u8], header: Header, handles: u32, at: u32) -> CheckAnswer
+    ensures { λ r. ⌜ checked-outcome r ≡ staticsAccepted (now (f .entry)) header handles at ⌝ }
 {
     if at <= 0 {
         return CheckAnswer::Accepted;
     }
     let place = at as usize;
-    let walk = value_heads::walk_of(header::frame_of(h, handles), place);
-    match encoded_value::top_array(header::section_of(f, h), walk, place) {
+    let walk = value_heads::walk_of(header::frame_of(header, handles), place);
+    match encoded_value::top_array(header::up_to_end(f, header), walk, place) {
         StepAnswer::Refused(r) => CheckAnswer::Refused(r),
         StepAnswer::Next(_) => CheckAnswer::Accepted,
     }
@@ -165,37 +165,37 @@ fn values_below(f: &[u8], h: Header, handles: u32, at: u32) -> CheckAnswer
 // What the four offsets of a class lead to, in stored order but for the static values, which come last.
 fn below_pass(
     f: &[u8],
-    h: Header,
+    header: Header,
     handles: u32,
     interfaces: u32,
     directory: u32,
     members: u32,
     values: u32,
 ) -> CheckAnswer
-    ensures { λ r. ⌜ checked-outcome r ≡ belowPass (now (f .entry)) h handles interfaces directory members values ⌝ }
+    ensures { λ r. ⌜ checked-outcome r ≡ belowPass (now (f .entry)) header handles interfaces directory members values ⌝ }
 {
-    match type_list::check_types(f, h, interfaces) {
+    match type_list::check_types(f, header, interfaces) {
         CheckAnswer::Refused(r) => CheckAnswer::Refused(r),
-        CheckAnswer::Accepted => match annotations_below(f, h, handles, directory) {
+        CheckAnswer::Accepted => match annotations_below(f, header, handles, directory) {
             CheckAnswer::Refused(r) => CheckAnswer::Refused(r),
-            CheckAnswer::Accepted => match data_below(f, h, handles, members) {
+            CheckAnswer::Accepted => match data_below(f, header, handles, members) {
                 CheckAnswer::Refused(r) => CheckAnswer::Refused(r),
-                CheckAnswer::Accepted => values_below(f, h, handles, values),
+                CheckAnswer::Accepted => values_below(f, header, handles, values),
             },
         },
     }
 }
 
 // Class n with all below it.
-pub fn check_class(f: &[u8], h: Header, handles: u32, n: u32) -> CheckAnswer
-    ensures { λ r. ⌜ checked-outcome r ≡ classAccepted (now (f .entry)) h handles n ⌝ }
+pub fn check_class(f: &[u8], header: Header, handles: u32, n: u32) -> CheckAnswer
+    ensures { λ r. ⌜ checked-outcome r ≡ classAccepted (now (f .entry)) header handles n ⌝ }
 {
-    let t = h.classes;
-    match class_ids::class_at(f, header::frame_of(h, 0), h.end, t.offset, n) {
+    let t = header.classes;
+    match class_ids::class_at(f, header::frame_of(header, 0), header.end, t.offset, n) {
         ClassAnswer::Refused(r) => CheckAnswer::Refused(r),
         ClassAnswer::Got(c) => below_pass(
             f,
-            h,
+            header,
             handles,
             c.interfaces,
             c.directory,

@@ -7,6 +7,7 @@ use mathlib.Core.Option.{Option, none, some}
 use mathlib.Core.List.{List, [], _∷_}
 use lib.ListN.{length}
 use native.Mathlib.Omega.{arith}
+use Rattle.refusal.specs.Refusals.{runs-past, wrong-code}
 use Rattle.refusal.specs.Rows.{Found}
 use Rattle.refusal.specs.Seek.{position}
 use Rattle.refusal.specs.Exact.{Exact, Decides, Row, empty, first, At, here, there, Each, Alike, Rising, Sought, found}
@@ -43,7 +44,7 @@ record TryStep (o : Endian) (s : List ℕ) (units : ℕ) (r : Run) (t : Try) (u 
 step-exact : (o : Endian) (s : List ℕ) (units item : ℕ) (r : Run) → Exact (stepAt o s units item r) (λ (x : Found Try Run). TryStep o s units r (x .item) (x .next))
 unfolding stepAt judged tryAllowed
 step-exact o s units item r =
-    exact-iff (given-exact 17 item (both (at-most (r .floor) (tryAt o s (r .place) .start)) (at-most (tryAt o s (r .place) .start + tryAt o s (r .place) .count) units)) (answer-exact _))
+    exact-iff (given-exact (wrong-code item) (both (at-most (r .floor) (tryAt o s (r .place) .start)) (at-most (tryAt o s (r .place) .start + tryAt o s (r .place) .count) units)) (answer-exact _))
     (λ x h. subst (λ (y : Found Try Run). TryStep o s units r (y .item) (y .next)) (h .1) (record { bytes = refl; after = h .0 .0; within = h .0 .1; place = refl; floor = refl }))
     (λ x h. parted (x .item) (x .next) h)
   where
@@ -278,7 +279,7 @@ module _ (s : List ℕ) (f : Frame) (item : ℕ) where
   pub code-exact : Exact (codeAt s f item) (CodeRule s f item)
   unfolding codeAt bodyAt
   code-exact =
-      exact-iff (bind-exact _ _ (head-exact s f item) (λ h. given-exact 9 item (at-most (item + (bodySize h + 8 * h .tries)) (length s)) (parts-exact h (item + bodySize h) (item + (bodySize h + 8 * h .tries)))))
+      exact-iff (bind-exact _ _ (head-exact s f item) (λ h. given-exact (runs-past item) (at-most (item + (bodySize h + 8 * h .tries)) (length s)) (parts-exact h (item + bodySize h) (item + (bodySize h + 8 * h .tries)))))
       (λ c e. body-whole c (e .0) (e .1 .0) (e .1 .1 .0) (e .1 .1 .1))
       (λ c e. (c .head, (e .head, (e .room, body-back c e))))
 

@@ -9,6 +9,7 @@ use lib.Dec.{leb, eqb}
 use borrow.Author.Needs.{needs}
 use borrow.Author.Tests.{le-leb, lt-leb, eq-eqb, ne-eqb}
 use native.Mathlib.Omega.{arith}
+use Rattle.refusal.specs.Refusals.{wrong-code}
 use Rattle.refusal.specs.declared.Refusal.{Refusal}
 use Rattle.refusal.specs.Outcome.{answer, refused, _>>=_}
 use Rattle.refusal.specs.Rows.{Found}
@@ -43,12 +44,12 @@ module _ {o : Endian} {s : List ℕ} {units item from count k left place floor i
     pub trying-next : {new : Try} → b ≡ true → new ≡ cond (eqb i k) t keep → Trying o s units item from count k (left - 1) (place + 8) (t .start + t .count) (i + 1) new
     unfolding stepAt judged
     trying-next e w = record {
-      choosing = choosing-next (h .choosing) l (passes 17 item (sym asked ∙ e) refl ∙ ap (judged units item (record { place = place; floor = floor })) read) w;
+      choosing = choosing-next (h .choosing) l (passes (wrong-code item) (sym asked ∙ e) refl ∙ ap (judged units item (record { place = place; floor = floor })) read) w;
       sum = let z = h .sum in omega arith;
       room = let z = h .room in omega arith;
     }
 
-    pub trying-stop : b ≡ false → refused (record { number = 17; place = item }) ≡ keptTry o s units item from count k
+    pub trying-stop : b ≡ false → refused (wrong-code item) ≡ keptTry o s units item from count k
     unfolding keptTry stepAt judged
     trying-stop e = sym (bind-refused item-alone (sym (choosing-stop (h .choosing) l (fails _ (sym asked ∙ e) ∙ ap (judged units item (record { place = place; floor = floor })) read))))
 
@@ -104,11 +105,11 @@ module _ {o : Endian} {s : List ℕ} {j : HandlerJudge} {first handlers from cou
   unfolding keptLink walkAt
   stopped e = sym (bind-refused item-alone (sym (choosing-stop (h .linking .choosing) (h .some-left) (sym (bind-refused _ (h .same ∙ e))))))
 
-  pub starting-none : unseen ≤ 0 → refused (record { number = 17; place = j .item }) ≡ keptLink o s j first handlers from count k
+  pub starting-none : unseen ≤ 0 → refused (wrong-code (j .item)) ≡ keptLink o s j first handlers from count k
   unfolding linkFrom
   starting-none q = stopped (go unseen q)
     where
-      go : (n : ℕ) → n ≤ 0 → linkFrom s j (u16At o s (place + 6)) n p number ≡ refused (record { number = 17; place = j .item })
+      go : (n : ℕ) → n ≤ 0 → linkFrom s j (u16At o s (place + 6)) n p number ≡ refused (wrong-code (j .item))
       go zero q = refl
       go (suc n) q = absurd (omega arith)
 

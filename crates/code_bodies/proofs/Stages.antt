@@ -10,6 +10,8 @@ use lib.Dec.{ltb, leb}
 use borrow.Author.Needs.{needs}
 use borrow.Author.Tests.{le-leb, lt-leb, ltb-false}
 use native.Mathlib.Omega.{arith}
+use Rattle.refusal.specs.Refusals.{runs-past}
+use Rattle.refusal.specs.declared.Refusal.{Refusal}
 use Rattle.refusal.specs.Outcome.{Outcome, answer, refused, _>>=_, given}
 use Rattle.refusal.specs.Rows.{Found, collect}
 use Rattle.refusal.specs.Choose.{choose}
@@ -39,10 +41,10 @@ use Rattle.code_bodies.specs.Code.{judge-of, listAt, Code, partsAt, body
 use Rattle.code_bodies.specs.Answers.{try-found, link-outcome, kept-code-outcome}
 
 -- what follows a test that holds, under what comes after
-guarded : {A B : Type 0} (n p : ℕ) (t : Bool) (o : Outcome A) (f : A → Outcome B) {q : Outcome B} → (o >>= f) ≡ q → (given t n p o >>= f) ≡ given t n p q
+guarded : {A B : Type 0} (r : Refusal) (t : Bool) (o : Outcome A) (f : A → Outcome B) {q : Outcome B} → (o >>= f) ≡ q → (given t r o >>= f) ≡ given t r q
 unfolding given _>>=_
-guarded n p true o f e = e
-guarded n p false o f e = refl
+guarded r true o f e = e
+guarded r false o f e = refl
 
 -- ---- handlers gone over again find what their list has
 abbrev pub from-number : ℕ → Option ℕ → Option ℕ
@@ -155,26 +157,26 @@ module _ (s : List ℕ) (f : Frame) (item : ℕ) where
   kept-whole t h k =
       bind-assoc (codeHeadAt s f item) (bodyAt s f item) (kept t h k)
       ∙ λ i. codeHeadAt s f item >>= λ (head : CodeHead).
-      guarded 9 item (leb (item + (bodySize head + 8 * head .tries)) (length s)) _ (kept t h k) (parts-whole s f item head (item + bodySize head) (item + (bodySize head + 8 * head .tries)) t h k) i
+      guarded (runs-past item) (leb (item + (bodySize head + 8 * head .tries)) (length s)) _ (kept t h k) (parts-whole s f item head (item + bodySize head) (item + (bodySize head + 8 * head .tries)) t h k) i
 
   pub kept-by : (t h k : ℕ) {y : Outcome KeptCode} → y ≡ (codeHeadAt s f item >>= λ (head : CodeHead). bodyStage s f item head t h k) → y ≡ keptCodeAt s f item t h k
   kept-by t h k e = e ∙ sym (kept-whole t h k)
 
 -- ---- what follows the head
 module _ (s : List ℕ) (f : Frame) (item : ℕ) (head : CodeHead) (t h k : ℕ) where
-  too-long : length s < item + (bodySize head + 8 * head .tries) → refused (record { number = 9; place = item }) ≡ bodyStage s f item head t h k
+  too-long : length s < item + (bodySize head + 8 * head .tries) → refused (runs-past item) ≡ bodyStage s f item head t h k
   unfolding bodyStage
   too-long p = fails _ (lt-leb (item + (bodySize head + 8 * head .tries)) (length s) p)
 
-  pub body-low : length s < item → refused (record { number = 9; place = item }) ≡ bodyStage s f item head t h k
+  pub body-low : length s < item → refused (runs-past item) ≡ bodyStage s f item head t h k
   body-low p = too-long (omega arith)
 
   module _ {body : ℕ} (e : body ≡ bodySize head) (p : item ≤ length s) where
-    pub body-short : length s - item < body → refused (record { number = 9; place = item }) ≡ bodyStage s f item head t h k
+    pub body-short : length s - item < body → refused (runs-past item) ≡ bodyStage s f item head t h k
     body-short q = too-long (omega arith)
 
     module _ (q : body ≤ length s - item) where
-      pub body-long : length s - item - body < 8 * head .tries → refused (record { number = 9; place = item }) ≡ bodyStage s f item head t h k
+      pub body-long : length s - item - body < 8 * head .tries → refused (runs-past item) ≡ bodyStage s f item head t h k
       body-long r = too-long (omega arith)
 
       pub body-by : {y : Outcome KeptCode} → 8 * head .tries ≤ length s - item - body
@@ -183,7 +185,7 @@ module _ (s : List ℕ) (f : Frame) (item : ℕ) (head : CodeHead) (t h k : ℕ)
       body-by r g =
           let base : item + body + 8 * head .tries ≡ item + (bodySize head + 8 * head .tries) = omega arith in
           g ∙ (λ i. partsStage s (f .order) (judge-of f item head (base i)) head (item + e i) t h k)
-          ∙ passes 9 item (le-leb (item + (bodySize head + 8 * head .tries)) (length s) (omega arith)) refl
+          ∙ passes (runs-past item) (le-leb (item + (bodySize head + 8 * head .tries)) (length s) (omega arith)) refl
 
 -- ---- calls, by the arm that was taken
 pub on-try : {B : Type 0} {x c : TryFoundAnswer} {o : Outcome Try} {y : Outcome B} (k : Try → Outcome B) → try-found x ≡ o → x ≡ c → y ≡ (try-found c >>= k) → y ≡ (o >>= k)

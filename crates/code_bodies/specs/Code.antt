@@ -4,6 +4,7 @@ use mathlib.Core.Bool.{cond}
 use mathlib.Core.List.{List, []}
 use lib.ListN.{length, getD}
 use lib.Dec.{ltb, leb}
+use Rattle.refusal.specs.Refusals.{runs-past}
 use Rattle.refusal.specs.Outcome.{Outcome, answer, _>>=_, given}
 use Rattle.word.specs.declared.Endian.{Endian}
 use Rattle.frame.specs.declared.Frame.{Frame}
@@ -17,11 +18,11 @@ use Rattle.code_bodies.specs.declared.Try.{Try}
 use Rattle.code_bodies.specs.Tries.{triesAt, linksAt, no-try, keptTry, keptLink}
 
 abbrev pub judge-of : Frame → ℕ → CodeHead → ℕ → HandlerJudge
-judge-of f item h base = record { types = f .types; units = h .units; item = item; base = base }
+judge-of frame item h base = record { types = frame .types; units = h .units; item = item; base = base }
 
 -- "Without tries there is no handler list."
 unfoldable pub listAt : List ℕ → Frame → ℕ → CodeHead → ℕ → Outcome H.HandlerList
-listAt s f item h base = cond (ltb 0 (h .tries)) (H.handlersAt s (judge-of f item h base)) (answer (record { first = base; handlers = []; end = base }))
+listAt s frame item h base = cond (ltb 0 (h .tries)) (H.handlersAt s (judge-of frame item h base)) (answer (record { first = base; handlers = []; end = base }))
 
 -- what the bytes say
 pub record Code : Type 0 where
@@ -35,20 +36,20 @@ pub record Code : Type 0 where
 
 -- tries, handler list, and then the tries' handler offsets
 unfoldable pub partsAt : List ℕ → Frame → ℕ → CodeHead → ℕ → ℕ → Outcome Code
-partsAt s f item h from base = do
-  t ← triesAt (f .order) s (h .units) item from (h .tries)
-  l ← listAt s f item h base
-  n ← linksAt (f .order) s (l .handlers) item from (h .tries)
-  answer (record { head = h; units = unitsAt (f .order) s (item + 16) (h .units); tries = t .item; handlers = l; links = n .item; from = from; base = base })
+partsAt s frame item h from base = do
+  t ← triesAt (frame .order) s (h .units) item from (h .tries)
+  l ← listAt s frame item h base
+  n ← linksAt (frame .order) s (l .handlers) item from (h .tries)
+  answer (record { head = h; units = unitsAt (frame .order) s (item + 16) (h .units); tries = t .item; handlers = l; links = n .item; from = from; base = base })
 
 -- units, padding and tries are 9 where they run past the end
 unfoldable pub bodyAt : List ℕ → Frame → ℕ → CodeHead → Outcome Code
-bodyAt s f item h =
-    given (leb (item + (bodySize h + 8 * h .tries)) (length s)) 9 item
-    (partsAt s f item h (item + bodySize h) (item + (bodySize h + 8 * h .tries)))
+bodyAt s frame item h =
+    given (leb (item + (bodySize h + 8 * h .tries)) (length s)) (runs-past item)
+    (partsAt s frame item h (item + bodySize h) (item + (bodySize h + 8 * h .tries)))
 
 unfoldable pub codeAt : List ℕ → Frame → ℕ → Outcome Code
-codeAt s f item = codeHeadAt s f item >>= bodyAt s f item
+codeAt s frame item = codeHeadAt s frame item >>= bodyAt s frame item
 
 -- ---- stages of the code, which keeps try t with its link, and pair k of handler h
 pub record KeptCode : Type 0 where
@@ -74,7 +75,7 @@ kept t h k c = answer (record {
 })
 
 unfoldable pub keptCodeAt : List ℕ → Frame → ℕ → ℕ → ℕ → ℕ → Outcome KeptCode
-keptCodeAt s f item t h k = codeAt s f item >>= kept t h k
+keptCodeAt s frame item t h k = codeAt s frame item >>= kept t h k
 
 -- with tries
 unfoldable pub linkedStage : List ℕ → Endian → HandlerJudge → CodeHead → Try → ℕ → ℕ → ℕ → ℕ → Outcome KeptCode
@@ -94,6 +95,6 @@ partsStage s o j head from t h k = do
   listedStage s o j head a from t h k
 
 unfoldable pub bodyStage : List ℕ → Frame → ℕ → CodeHead → ℕ → ℕ → ℕ → Outcome KeptCode
-bodyStage s f item head t h k =
-    given (leb (item + (bodySize head + 8 * head .tries)) (length s)) 9 item
-    (partsStage s (f .order) (judge-of f item head (item + (bodySize head + 8 * head .tries))) head (item + bodySize head) t h k)
+bodyStage s frame item head t h k =
+    given (leb (item + (bodySize head + 8 * head .tries)) (length s)) (runs-past item)
+    (partsStage s (frame .order) (judge-of frame item head (item + (bodySize head + 8 * head .tries))) head (item + bodySize head) t h k)

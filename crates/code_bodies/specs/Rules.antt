@@ -33,17 +33,17 @@ pub record LinkRule (handlers : List Handler) (t : Try) (n : ℕ) : Type 0 where
   pub stands : At handlers n handler
   pub starts : handler .offset ≡ t .handler
 
-pub record CodeRule (s : List ℕ) (f : Frame) (item : ℕ) (c : Code) : Type 0 where
-  pub head : CodeHeadRule s f item (c .head)
+pub record CodeRule (s : List ℕ) (frame : Frame) (item : ℕ) (c : Code) : Type 0 where
+  pub head : CodeHeadRule s frame item (c .head)
   pub room : item + (bodySize (c .head) + 8 * c .head .tries) ≤ length s
   -- as many tries as the head says, eight bytes each, in order
-  pub tries : Each (λ (k : ℕ) (t : Try). TryRule (f .order) s (c .head .units) (c .from + 8 * k) t) (c .head .tries) (c .tries)
+  pub tries : Each (λ (k : ℕ) (t : Try). TryRule (frame .order) s (c .head .units) (c .from + 8 * k) t) (c .head .tries) (c .tries)
   pub in-order : Rising EndsBefore (c .tries)
   -- "Without tries there is no handler list."
-  pub handlers : ((0 < c .head .tries) × HandlersRule s (judge-of f item (c .head) (c .base)) (c .handlers))
+  pub handlers : ((0 < c .head .tries) × HandlersRule s (judge-of frame item (c .head) (c .base)) (c .handlers))
       ⊎ ((0 < c .head .tries → ⊥) × (record { first = c .base; handlers = []; end = c .base } ≡ c .handlers))
   -- beside each try the number of its handler
   pub links : Alike (LinkRule (c .handlers .handlers)) (c .tries) (c .links)
-  pub units : unitsAt (f .order) s (item + 16) (c .head .units) ≡ c .units
+  pub units : unitsAt (frame .order) s (item + 16) (c .head .units) ≡ c .units
   pub from : item + bodySize (c .head) ≡ c .from
   pub base : item + (bodySize (c .head) + 8 * c .head .tries) ≡ c .base

@@ -4,6 +4,7 @@ use mathlib.Core.Bool.{Bool, cond, _&&_}
 use mathlib.Core.Option.{Option, none, some}
 use mathlib.Core.List.{List}
 use lib.Dec.{leb, eqb}
+use Rattle.refusal.specs.Refusals.{wrong-code}
 use Rattle.refusal.specs.Outcome.{Outcome, answer, refused, _>>=_, given}
 use Rattle.refusal.specs.Rows.{Found, collect}
 use Rattle.refusal.specs.Choose.{choose}
@@ -27,7 +28,7 @@ pub record Run : Type 0 where
   pub floor : ℕ
 
 unfoldable pub judged : ℕ → ℕ → Run → Try → Outcome (Found Try Run)
-judged units item r t = given (tryAllowed units (r .floor) t) 17 item (answer (record { item = t; next = record { place = r .place + 8; floor = t .start + t .count } }))
+judged units item r t = given (tryAllowed units (r .floor) t) (wrong-code item) (answer (record { item = t; next = record { place = r .place + 8; floor = t .start + t .count } }))
 
 unfoldable pub stepAt : Endian → List ℕ → ℕ → ℕ → Run → Outcome (Found Try Run)
 stepAt o s units item r = judged units item r (tryAt o s (r .place))
@@ -41,7 +42,7 @@ triesAt o s units item from count = collect count (stepAt o s units item) (begin
 -- "its handler offset is the start of a handler in the list": the number of the handler that begins there, or 17
 unfoldable pub linked : ℕ → Option ℕ → Outcome ℕ
 linked item (some n) = answer n
-linked item none = refused (record { number = 17; place = item })
+linked item none = refused (wrong-code item)
 
 unfoldable pub isStart : ℕ → Handler → Bool
 isStart want h = eqb (h .offset) want
@@ -66,7 +67,7 @@ keptTry o s units item from count k = choose count (stepAt o s units item) no-tr
 
 -- the handlers are gone over again: `left` of them from p on, the first being number n
 unfoldable pub linkFrom : List ℕ → HandlerJudge → ℕ → ℕ → ℕ → ℕ → Outcome ℕ
-linkFrom s j want zero p n = refused (record { number = 17; place = j .item })
+linkFrom s j want zero p n = refused (wrong-code (j .item))
 linkFrom s j want (suc left) p n = handlerAt s j p >>= λ h. cond (isStart want (h .item)) (answer n) (linkFrom s j want left (h .next) (n + 1))
 
 unfoldable pub walkAt : Endian → List ℕ → HandlerJudge → ℕ → ℕ → ℕ → Outcome (Found ℕ ℕ)

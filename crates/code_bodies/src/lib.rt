@@ -285,16 +285,16 @@ fn parts_at(
 // What follows the head: its length first, up to the handler list.
 fn body_at(
     s: &[u8],
-    f: Frame,
+    frame: Frame,
     item: usize,
     head: CodeHead,
     t: u32,
     h: u32,
     k: u32,
 ) -> KeptCodeAnswer
-    ensures { λ r. ⌜ kept-code-outcome r ≡ bodyStage (now (s .entry)) f item head t h k ⌝ }
+    ensures { λ r. ⌜ kept-code-outcome r ≡ bodyStage (now (s .entry)) frame item head t h k ⌝ }
 {
-    let order = f.order;
+    let order = frame.order;
     let body = code_heads::body_size(head);
     let tries = 8 * head.tries as usize;
     if s.len() < item {
@@ -317,7 +317,7 @@ fn body_at(
     }
     let from = item + body;
     let j = HandlerJudge {
-        types: f.types,
+        types: frame.types,
         units: head.units,
         item,
         base: from + tries,
@@ -326,11 +326,11 @@ fn body_at(
 }
 
 // The whole, of which try t with its handler's number, and pair k of handler h, are kept.
-pub fn kept_at(s: &[u8], f: Frame, item: usize, t: u32, h: u32, k: u32) -> KeptCodeAnswer
-    ensures { λ r. ⌜ kept-code-outcome r ≡ keptCodeAt (now (s .entry)) f item t h k ⌝ }
+pub fn kept_at(s: &[u8], frame: Frame, item: usize, t: u32, h: u32, k: u32) -> KeptCodeAnswer
+    ensures { λ r. ⌜ kept-code-outcome r ≡ keptCodeAt (now (s .entry)) frame item t h k ⌝ }
 {
-    match code_heads::head_at(s, f, item) {
+    match code_heads::head_at(s, frame, item) {
         CodeHeadAnswer::Refused(r) => KeptCodeAnswer::Refused(r),
-        CodeHeadAnswer::Got(head) => body_at(s, f, item, head, t, h, k),
+        CodeHeadAnswer::Got(head) => body_at(s, frame, item, head, t, h, k),
     }
 }

@@ -4,6 +4,7 @@ use mathlib.Core.Bool.{false, cond, _&&_}
 use mathlib.Core.List.{List}
 use lib.ListN.{length}
 use lib.Dec.{ltb, leb, eqb}
+use Rattle.refusal.specs.Refusals.{runs-past, wrong-offset}
 use Rattle.refusal.specs.Outcome.{Outcome, answer, given}
 use Rattle.word.specs.Words.{u16At, u32At}
 use Rattle.frame.specs.declared.Frame.{Frame}
@@ -12,17 +13,17 @@ use Rattle.code_heads.specs.declared.CodeHead.{CodeHead}
 
 -- fields in stored order: a debug offset that is there and wrong (8) comes before a later field that is missing (9)
 unfoldable pub codeHeadAt : List ℕ → Frame → ℕ → Outcome CodeHead
-codeHeadAt s f item =
-    given (leb (item + 12) (length s)) 9 item
-    (given (allowedOrAbsent (f .start) (length s) false (u32At (f .order) s (item + 8))) 8 item
-    (given (leb (item + 16) (length s)) 9 item
+codeHeadAt s frame item =
+    given (leb (item + 12) (length s)) (runs-past item)
+    (given (allowedOrAbsent (frame .start) (length s) false (u32At (frame .order) s (item + 8))) (wrong-offset item)
+    (given (leb (item + 16) (length s)) (runs-past item)
     (answer (record {
-      registers = u16At (f .order) s item;
-      ins = u16At (f .order) s (item + 2);
-      outs = u16At (f .order) s (item + 4);
-      tries = u16At (f .order) s (item + 6);
-      debug = u32At (f .order) s (item + 8);
-      units = u32At (f .order) s (item + 12);
+      registers = u16At (frame .order) s item;
+      ins = u16At (frame .order) s (item + 2);
+      outs = u16At (frame .order) s (item + 4);
+      tries = u16At (frame .order) s (item + 6);
+      debug = u32At (frame .order) s (item + 8);
+      units = u32At (frame .order) s (item + 12);
     }))))
 
 -- "Padding of two bytes follows an odd unit count only if there are tries."

@@ -21,7 +21,7 @@ read-head o s p = record {
   units = u32At o s (p + 12);
 }
 
-pub record CodeHeadRule (s : List ℕ) (f : Frame) (item : ℕ) (h : CodeHead) : Type 0 where
+pub record CodeHeadRule (s : List ℕ) (frame : Frame) (item : ℕ) (h : CodeHead) : Type 0 where
   pub room : item + 16 ≤ length s
-  pub debug : AllowedOrAbsent (f .start) (length s) false (u32At (f .order) s (item + 8))
-  pub fields : read-head (f .order) s item ≡ h
+  pub debug : AllowedOrAbsent (frame .start) (length s) false (u32At (frame .order) s (item + 8))
+  pub fields : read-head (frame .order) s item ≡ h

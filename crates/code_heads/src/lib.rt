@@ -22,10 +22,10 @@ pub enum CodeHeadAnswer {
 }
 
 // The head: 9 where a field is missing, 8 for the debug offset before what is stored after it.
-pub fn head_at(s: &[u8], f: Frame, item: usize) -> CodeHeadAnswer
-    ensures { λ r. ⌜ code-head-outcome r ≡ codeHeadAt (now (s .entry)) f item ⌝ }
+pub fn head_at(s: &[u8], frame: Frame, item: usize) -> CodeHeadAnswer
+    ensures { λ r. ⌜ code-head-outcome r ≡ codeHeadAt (now (s .entry)) frame item ⌝ }
 {
-    let order = f.order;
+    let order = frame.order;
     if s.len() < item {
         return CodeHeadAnswer::Refused(Refusal {
             number: 9,
@@ -39,7 +39,7 @@ pub fn head_at(s: &[u8], f: Frame, item: usize) -> CodeHeadAnswer
         });
     }
     let debug = word::u32_at(s, item + 8, order);
-    if frame::is_allowed_or_absent(f.start, s.len(), false, debug as usize) {
+    if frame::is_allowed_or_absent(frame.start, s.len(), false, debug as usize) {
         if s.len() - item < 16 {
             return CodeHeadAnswer::Refused(Refusal {
                 number: 9,

@@ -9,6 +9,7 @@ use lib.ListN.{length, getD}
 use lib.Dec.{ltb}
 use borrow.Author.Needs.{needs}
 use borrow.Author.Tests.{lt-ltb}
+use Rattle.refusal.specs.Refusals.{not-there}
 use Rattle.refusal.specs.Outcome.{Outcome, answer, _>>=_, given}
 use Rattle.refusal.proofs.Laws.{tests, calls, passes}
 use Rattle.refusal.proofs.Rows.{bind-assoc}
@@ -28,16 +29,16 @@ module _ (s : List ℕ) (f : Frame) (item : ℕ) where
   unfolding outlineAt keptCodeAt _>>=_
   outline-by e = e ∙ bind-assoc (codeAt s f item) (kept 0 0 0) _
 
-  pub try-of-by : (t : ℕ) {y : Outcome Linked} → y ≡ (keptCodeAt s f item t 0 0 >>= λ (c : KeptCode). given (ltb t (c .head .tries)) 7 0 (answer (record { attempt = c .attempt; number = c .link }))) → y ≡ tryOf s f item t
+  pub try-of-by : (t : ℕ) {y : Outcome Linked} → y ≡ (keptCodeAt s f item t 0 0 >>= λ (c : KeptCode). given (ltb t (c .head .tries)) not-there (answer (record { attempt = c .attempt; number = c .link }))) → y ≡ tryOf s f item t
   unfolding tryOf keptCodeAt _>>=_
   try-of-by t e = e ∙ bind-assoc (codeAt s f item) (kept t 0 0) _
 
   pub handler-of-by : (h : ℕ) {y : Outcome Handed}
-      → y ≡ (keptCodeAt s f item 0 h 0 >>= λ (c : KeptCode). given (ltb h (c .handlers)) 7 0 (answer (record { offset = c .brief .offset; pairs = c .brief .pairs; all = catchIn (c .brief) }))) → y ≡ handlerOf s f item h
+      → y ≡ (keptCodeAt s f item 0 h 0 >>= λ (c : KeptCode). given (ltb h (c .handlers)) not-there (answer (record { offset = c .brief .offset; pairs = c .brief .pairs; all = catchIn (c .brief) }))) → y ≡ handlerOf s f item h
   unfolding handlerOf keptCodeAt catchIn _>>=_
   handler-of-by h e =
       e ∙ bind-assoc (codeAt s f item) (kept 0 h 0) _
-      ∙ λ i. codeAt s f item >>= λ (c : Code). given (ltb h (length (c .handlers .handlers))) 7 0 (answer (record {
+      ∙ λ i. codeAt s f item >>= λ (c : Code). given (ltb h (length (c .handlers .handlers))) not-there (answer (record {
         offset = getD (c .handlers .handlers) h H.nobody .offset;
         pairs = length (getD (c .handlers .handlers) h H.nobody .pairs);
         all = caught (getD (c .handlers .handlers) h H.nobody .all) i;
@@ -47,15 +48,15 @@ module _ (s : List ℕ) (f : Frame) (item : ℕ) where
       caught none = refl
       caught (some a) = refl
 
-  pub pair-of-by : (h k : ℕ) {y : Outcome Pair} → y ≡ (keptCodeAt s f item 0 h k >>= λ (c : KeptCode). given (ltb h (c .handlers)) 7 0 (pairIn (c .brief) k)) → y ≡ pairOf s f item h k
+  pub pair-of-by : (h k : ℕ) {y : Outcome Pair} → y ≡ (keptCodeAt s f item 0 h k >>= λ (c : KeptCode). given (ltb h (c .handlers)) not-there (pairIn (c .brief) k)) → y ≡ pairOf s f item h k
   unfolding pairOf keptCodeAt pairIn _>>=_
   pair-of-by h k e = e ∙ bind-assoc (codeAt s f item) (kept 0 h k) _
 
 -- a handler that is handed out
 module _ (h n : ℕ) (b : Brief) where
   pub handler-there : (x : Catch) → h < n → catch-meant x ≡ catchIn b
-      → _≡_ {A = Outcome Handed} (answer (record { offset = b .offset; pairs = b .pairs; all = catch-meant x })) (given (ltb h n) 7 0 (answer (record { offset = b .offset; pairs = b .pairs; all = catchIn b })))
-  handler-there x p e = passes 7 0 (lt-ltb h n p) (λ i. answer (record { offset = b .offset; pairs = b .pairs; all = e i }))
+      → _≡_ {A = Outcome Handed} (answer (record { offset = b .offset; pairs = b .pairs; all = catch-meant x })) (given (ltb h n) not-there (answer (record { offset = b .offset; pairs = b .pairs; all = catchIn b })))
+  handler-there x p e = passes not-there (lt-ltb h n p) (λ i. answer (record { offset = b .offset; pairs = b .pairs; all = e i }))
 
 pub ruleset part-laws = (calls, tests, needs)
 

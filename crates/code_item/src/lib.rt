@@ -69,10 +69,10 @@ pub enum CoveringTryAnswer {
 }
 
 // The code item at a place.
-pub fn code_at(s: &[u8], f: Frame, item: usize) -> CodeAnswer
-    ensures { λ r. ⌜ code-outcome r ≡ outlineAt (now (s .entry)) f item ⌝ }
+pub fn code_at(s: &[u8], frame: Frame, item: usize) -> CodeAnswer
+    ensures { λ r. ⌜ code-outcome r ≡ outlineAt (now (s .entry)) frame item ⌝ }
 {
-    match code_bodies::kept_at(s, f, item, 0, 0, 0) {
+    match code_bodies::kept_at(s, frame, item, 0, 0, 0) {
         KeptCodeAnswer::Refused(r) => CodeAnswer::Refused(r),
         KeptCodeAnswer::Got {
             head,
@@ -94,10 +94,10 @@ pub fn code_at(s: &[u8], f: Frame, item: usize) -> CodeAnswer
 }
 
 // Try t of the code item at a place.
-pub fn try_at(s: &[u8], f: Frame, item: usize, t: u32) -> TryAnswer
-    ensures { λ r. ⌜ try-outcome r ≡ tryOf (now (s .entry)) f item t ⌝ }
+pub fn try_at(s: &[u8], frame: Frame, item: usize, t: u32) -> TryAnswer
+    ensures { λ r. ⌜ try-outcome r ≡ tryOf (now (s .entry)) frame item t ⌝ }
 {
-    match code_bodies::kept_at(s, f, item, t, 0, 0) {
+    match code_bodies::kept_at(s, frame, item, t, 0, 0) {
         KeptCodeAnswer::Refused(r) => TryAnswer::Refused(r),
         KeptCodeAnswer::Got {
             head,
@@ -134,10 +134,10 @@ fn catch_in(b: Brief) -> Catch
 }
 
 // Handler h of the code item at a place.
-pub fn handler_at(s: &[u8], f: Frame, item: usize, h: u32) -> HandlerAnswer
-    ensures { λ r. ⌜ handler-outcome r ≡ handlerOf (now (s .entry)) f item h ⌝ }
+pub fn handler_at(s: &[u8], frame: Frame, item: usize, h: u32) -> HandlerAnswer
+    ensures { λ r. ⌜ handler-outcome r ≡ handlerOf (now (s .entry)) frame item h ⌝ }
 {
-    match code_bodies::kept_at(s, f, item, 0, h, 0) {
+    match code_bodies::kept_at(s, frame, item, 0, h, 0) {
         KeptCodeAnswer::Refused(r) => HandlerAnswer::Refused(r),
         KeptCodeAnswer::Got {
             head: _,
@@ -179,10 +179,10 @@ fn pair_in(b: Brief, k: u32) -> PairAnswer
 }
 
 // Pair k of handler h of the code item at a place.
-pub fn pair_at(s: &[u8], f: Frame, item: usize, h: u32, k: u32) -> PairAnswer
-    ensures { λ r. ⌜ pair-outcome r ≡ pairOf (now (s .entry)) f item h k ⌝ }
+pub fn pair_at(s: &[u8], frame: Frame, item: usize, h: u32, k: u32) -> PairAnswer
+    ensures { λ r. ⌜ pair-outcome r ≡ pairOf (now (s .entry)) frame item h k ⌝ }
 {
-    match code_bodies::kept_at(s, f, item, 0, h, k) {
+    match code_bodies::kept_at(s, frame, item, 0, h, k) {
         KeptCodeAnswer::Refused(r) => PairAnswer::Refused(r),
         KeptCodeAnswer::Got {
             head: _,
@@ -237,11 +237,11 @@ fn cover_at(s: &[u8], order: Endian, from: usize, count: u16, address: u32) -> C
 }
 
 // The try that covers an address, of the code item at a place.
-pub fn covering_try(s: &[u8], f: Frame, item: usize, address: u32) -> CoveringTryAnswer
-    ensures { λ r. ⌜ cover-outcome r ≡ coveringOf (now (s .entry)) f item address ⌝ }
+pub fn covering_try(s: &[u8], frame: Frame, item: usize, address: u32) -> CoveringTryAnswer
+    ensures { λ r. ⌜ cover-outcome r ≡ coveringOf (now (s .entry)) frame item address ⌝ }
 {
-    let order = f.order;
-    match code_bodies::kept_at(s, f, item, 0, 0, 0) {
+    let order = frame.order;
+    match code_bodies::kept_at(s, frame, item, 0, 0, 0) {
         KeptCodeAnswer::Refused(r) => CoveringTryAnswer::Refused(r),
         KeptCodeAnswer::Got {
             head,

@@ -10,6 +10,7 @@ use lib.Dec.{leb}
 use borrow.Author.Needs.{needs}
 use borrow.Author.Tests.{le-leb}
 use native.Mathlib.Omega.{arith}
+use Rattle.refusal.specs.Refusals.{no-room, runs-past}
 use Rattle.refusal.specs.declared.Refusal.{Refusal}
 use Rattle.refusal.specs.Outcome.{Outcome, answer, refused, _>>=_, given}
 use Rattle.refusal.proofs.Laws.{said, calls, passes, picks}
@@ -17,7 +18,7 @@ use Rattle.refusal.proofs.Exact.{never, answers-equal}
 use Rattle.word.specs.declared.Endian.{Endian}
 use Rattle.frame.specs.declared.Frame.{Frame}
 use Rattle.header.specs.declared.Header.{Header}
-use Rattle.header.specs.Header.{section, frame-of}
+use Rattle.header.specs.Header.{up-to-end, plain-frame}
 use Rattle.handlers.specs.declared.Pair.{Pair}
 use Rattle.code_units.specs.declared.UnitsAnswer.{UnitsAnswer}
 use Rattle.code_units.specs.Units.{unitsAt, filled, intoAt, leftAt}
@@ -49,29 +50,29 @@ on-code = said maybe-code
 
 -- ---- tries and handlers that were read in the file up to the data section's end, s, against the file's counts, r
 module _ (f : List ℕ) (h : Header) (p : ℕ) {s : List ℕ} {r : Frame} {B : Type 0} {y : Outcome B} where
-  pub try-framed : {x c : TryAnswer} (t : ℕ) (k : Linked → Outcome B) → s ≡ section f h → r ≡ frame-of h 0
-      → try-outcome x ≡ tryOf s r p t → x ≡ c → y ≡ (try-outcome c >>= k) → y ≡ (tryOf (section f h) (frame-of h 0) p t >>= k)
+  pub try-framed : {x c : TryAnswer} (t : ℕ) (k : Linked → Outcome B) → s ≡ up-to-end f h → r ≡ plain-frame h
+      → try-outcome x ≡ tryOf s r p t → x ≡ c → y ≡ (try-outcome c >>= k) → y ≡ (tryOf (up-to-end f h) (plain-frame h) p t >>= k)
   try-framed t = framed try-outcome (λ (l : List ℕ) (x : Frame). tryOf l x p t) f h
 
-  pub handler-framed : {x c : HandlerAnswer} (n : ℕ) (k : Handed → Outcome B) → s ≡ section f h → r ≡ frame-of h 0
-      → handler-outcome x ≡ handlerOf s r p n → x ≡ c → y ≡ (handler-outcome c >>= k) → y ≡ (handlerOf (section f h) (frame-of h 0) p n >>= k)
+  pub handler-framed : {x c : HandlerAnswer} (n : ℕ) (k : Handed → Outcome B) → s ≡ up-to-end f h → r ≡ plain-frame h
+      → handler-outcome x ≡ handlerOf s r p n → x ≡ c → y ≡ (handler-outcome c >>= k) → y ≡ (handlerOf (up-to-end f h) (plain-frame h) p n >>= k)
   handler-framed n = framed handler-outcome (λ (l : List ℕ) (x : Frame). handlerOf l x p n) f h
 
-  pub pair-framed : {x c : PairAnswer} (n m : ℕ) (k : Pair → Outcome B) → s ≡ section f h → r ≡ frame-of h 0
-      → pair-outcome x ≡ pairOf s r p n m → x ≡ c → y ≡ (pair-outcome c >>= k) → y ≡ (pairOf (section f h) (frame-of h 0) p n m >>= k)
+  pub pair-framed : {x c : PairAnswer} (n m : ℕ) (k : Pair → Outcome B) → s ≡ up-to-end f h → r ≡ plain-frame h
+      → pair-outcome x ≡ pairOf s r p n m → x ≡ c → y ≡ (pair-outcome c >>= k) → y ≡ (pairOf (up-to-end f h) (plain-frame h) p n m >>= k)
   pair-framed n m = framed pair-outcome (λ (l : List ℕ) (x : Frame). pairOf l x p n m) f h
 
-pub cover-framed : (f : List ℕ) (h : Header) (p address : ℕ) {s : List ℕ} {r : Frame} {y : Outcome (Option ℕ)} → s ≡ section f h → r ≡ frame-of h 0
-    → y ≡ coveringOf s r p address → y ≡ coveringOf (section f h) (frame-of h 0) p address
+pub cover-framed : (f : List ℕ) (h : Header) (p address : ℕ) {s : List ℕ} {r : Frame} {y : Outcome (Option ℕ)} → s ≡ up-to-end f h → r ≡ plain-frame h
+    → y ≡ coveringOf s r p address → y ≡ coveringOf (up-to-end f h) (plain-frame h) p address
 cover-framed f h p address e g q = q ∙ (λ i. coveringOf (e i) (g i) p address)
 
 -- ---- units that were written from there
-module _ (f : List ℕ) (h : Header) (p n : ℕ) {s : List ℕ} (e : s ≡ section f h) where
+module _ (f : List ℕ) (h : Header) (p n : ℕ) {s : List ℕ} (e : s ≡ up-to-end f h) where
   pub units-framed : {B : Type 0} {y : Outcome B} {x c : UnitsAnswer} (room : ℕ) (k : ℕ → Outcome B)
-      → units-outcome x ≡ intoAt (length s) p n room → x ≡ c → y ≡ (units-outcome c >>= k) → y ≡ (intoAt (length (section f h)) p n room >>= k)
+      → units-outcome x ≡ intoAt (length s) p n room → x ≡ c → y ≡ (units-outcome c >>= k) → y ≡ (intoAt (length (up-to-end f h)) p n room >>= k)
   units-framed room k q t w = said units-outcome k (q ∙ ap (λ (l : List ℕ). intoAt (length l) p n room) e) t w
 
-  pub left-framed : {l : List ℕ} (o : Endian) (out : List ℕ) → l ≡ leftAt o s p n out → l ≡ leftAt o (section f h) p n out
+  pub left-framed : {l : List ℕ} (o : Endian) (out : List ℕ) → l ≡ leftAt o s p n out → l ≡ leftAt o (up-to-end f h) p n out
   left-framed o out q = q ∙ ap (λ (x : List ℕ). leftAt o x p n out) e
 
 -- ---- all units of a code item are there, and are as many as its head says
@@ -88,14 +89,14 @@ module _ (s : List ℕ) (r : Frame) (p : ℕ) (c : Code) (rule : CodeRule s r p 
   long : c .head .units ≡ length (c .units)
   long = sym (ap length (sym (rule .units)) ∙ units-long (r .order) s (p + 16) (c .head .units))
 
-  into-whole : (room : ℕ) → (intoAt (length s) (p + 16) (c .head .units) room >>= λ (n : ℕ). answer (some n)) ≡ given (leb (length (c .units)) room) 19 0 (answer (some (length (c .units))))
+  into-whole : (room : ℕ) → (intoAt (length s) (p + 16) (c .head .units) room >>= λ (n : ℕ). answer (some n)) ≡ given (leb (length (c .units)) room) no-room (answer (some (length (c .units))))
   unfolding intoAt given _>>=_
   into-whole room =
-      ap (λ (o : Outcome ℕ). o >>= λ (n : ℕ). answer (some n)) (sym (passes 9 (p + 16) there refl))
+      ap (λ (o : Outcome ℕ). o >>= λ (n : ℕ). answer (some n)) (sym (passes (runs-past (p + 16)) there refl))
       ∙ under (leb (c .head .units) room) (c .head .units)
-      ∙ (λ i. given (leb (long i) room) 19 0 (answer (some (long i))))
+      ∙ (λ i. given (leb (long i) room) no-room (answer (some (long i))))
     where
-      under : (b : Bool) (n : ℕ) → (given b 19 0 (answer n) >>= λ (m : ℕ). answer (some m)) ≡ given b 19 0 (answer (some n))
+      under : (b : Bool) (n : ℕ) → (given b no-room (answer n) >>= λ (m : ℕ). answer (some m)) ≡ given b no-room (answer (some n))
       under true n = refl
       under false n = refl
 
@@ -107,7 +108,7 @@ refusals-equal : {A : Type 0} {a b : Refusal} → _≡_ {A = Outcome A} (refused
 refusals-equal e = cc
 
 -- ---- the units of the code at a place, when its outline was read
-module _ (f : List ℕ) (s : Spot) {l : List ℕ} {g : Frame} {x : CodeAnswer} (e : l ≡ section f (s .header)) (t : g ≡ frame-of (s .header) 0) (q : code-outcome x ≡ outlineAt l g (s .place)) where
+module _ (f : List ℕ) (s : Spot) {l : List ℕ} {g : Frame} {x : CodeAnswer} (e : l ≡ up-to-end f (s .header)) (t : g ≡ plain-frame (s .header)) (q : code-outcome x ≡ outlineAt l g (s .place)) where
   -- what the code's answer was, of the reading of the whole
   outlined : {c : CodeAnswer} → x ≡ c → code-outcome c ≡ (codeIn f s >>= λ (a : Code). answer (outline a))
   unfolding codeIn outlineAt
@@ -117,7 +118,7 @@ module _ (f : List ℕ) (s : Spot) {l : List ℕ} {g : Frame} {x : CodeAnswer} (
   unfolding unitsUnder _>>=_
   units-refused {r} room a = go (codeIn f s) (outlined a)
     where
-      go : (o : Outcome Code) → refused r ≡ (o >>= λ (c : Code). answer (outline c)) → refused r ≡ (o >>= λ (c : Code). given (leb (length (c .units)) room) 19 0 (answer (some (length (c .units)))))
+      go : (o : Outcome Code) → refused r ≡ (o >>= λ (c : Code). answer (outline c)) → refused r ≡ (o >>= λ (c : Code). given (leb (length (c .units)) room) no-room (answer (some (length (c .units)))))
       go (answer c) w = absurd (never w)
       go (refused b) w = ap refused (refusals-equal w)
 
@@ -134,10 +135,10 @@ module _ (f : List ℕ) (s : Spot) {l : List ℕ} {g : Frame} {x : CodeAnswer} (
   units-got {o} {y} room a w = w ∙ go (codeIn f s) refl (outlined a)
     where
       go : (z : Outcome Code) → codeIn f s ≡ z → answer o ≡ (z >>= λ (c : Code). answer (outline c))
-          → unitsInto f s (o .head .units) room ≡ (z >>= λ (c : Code). given (leb (length (c .units)) room) 19 0 (answer (some (length (c .units)))))
+          → unitsInto f s (o .head .units) room ≡ (z >>= λ (c : Code). given (leb (length (c .units)) room) no-room (answer (some (length (c .units)))))
       go (answer c) k v =
           (λ i. unitsInto f s (answers-equal v i .head .units) room)
-          ∙ into-whole (section f (s .header)) (frame-of (s .header) 0) (s .place) c (code-exact (section f (s .header)) (frame-of (s .header) 0) (s .place) .sound c k) room
+          ∙ into-whole (up-to-end f (s .header)) (plain-frame (s .header)) (s .place) c (code-exact (up-to-end f (s .header)) (plain-frame (s .header)) (s .place) .sound c k) room
       go (refused b) k v = absurd (never (sym v))
 
   pub left-got : {o : Outline} {y : List ℕ} (out : List ℕ) → x ≡ Got o → y ≡ unitsWritten f s (o .head .units) out → y ≡ unitsOver (codeIn f s) out
@@ -147,7 +148,7 @@ module _ (f : List ℕ) (s : Spot) {l : List ℕ} {g : Frame} {x : CodeAnswer} (
       go : (z : Outcome Code) → codeIn f s ≡ z → answer o ≡ (z >>= λ (c : Code). answer (outline c)) → unitsWritten f s (o .head .units) out ≡ unitsOver z out
       go (answer c) k v =
           (λ i. unitsWritten f s (answers-equal v i .head .units) out)
-          ∙ left-whole (section f (s .header)) (frame-of (s .header) 0) (s .place) c (code-exact (section f (s .header)) (frame-of (s .header) 0) (s .place) .sound c k) out
+          ∙ left-whole (up-to-end f (s .header)) (plain-frame (s .header)) (s .place) c (code-exact (up-to-end f (s .header)) (plain-frame (s .header)) (s .place) .sound c k) out
       go (refused b) k v = absurd (never (sym v))
 
 -- the output, by where the code lies

@@ -5,8 +5,9 @@ use mathlib.Core.Option.{Option, none, some}
 use mathlib.Core.List.{List}
 use lib.ListN.{length}
 use lib.Dec.{leb}
+use Rattle.refusal.specs.Refusals.{no-room}
 use Rattle.refusal.specs.Outcome.{Outcome, answer, refused, _>>=_, given}
-use Rattle.header.specs.Header.{section, frame-of}
+use Rattle.header.specs.Header.{up-to-end, plain-frame}
 use Rattle.handlers.specs.declared.Pair.{Pair}
 use Rattle.code_units.specs.Units.{filled, intoAt, leftAt}
 use Rattle.code_item.specs.declared.Outline.{Outline}
@@ -17,12 +18,12 @@ use Rattle.class_readers.specs.Spots.{onward, methodSpot}
 
 -- what the bytes say
 unfoldable pub codeIn : List ℕ → Spot → Outcome Code
-codeIn f s = codeAt (section f (s .header)) (frame-of (s .header) 0) (s .place)
+codeIn f s = codeAt (up-to-end f (s .header)) (plain-frame (s .header)) (s .place)
 
 -- its sizes, counts and places
 unfoldable pub outlineUnder : List ℕ → Spot → Outcome (Option Outline)
 outlineUnder f s = do
-  o ← C.outlineAt (section f (s .header)) (frame-of (s .header) 0) (s .place)
+  o ← C.outlineAt (up-to-end f (s .header)) (plain-frame (s .header)) (s .place)
   answer (some o)
 
 unfoldable pub methodCode : List ℕ → ℕ → ℕ → ℕ → Outcome (Option Outline)
@@ -31,7 +32,7 @@ methodCode f c list k = methodSpot f c list k >>= onward (outlineUnder f)
 -- try t, with the number of its handler
 unfoldable pub tryUnder : List ℕ → ℕ → Spot → Outcome (Option C.Linked)
 tryUnder f t s = do
-  l ← C.tryOf (section f (s .header)) (frame-of (s .header) 0) (s .place) t
+  l ← C.tryOf (up-to-end f (s .header)) (plain-frame (s .header)) (s .place) t
   answer (some l)
 
 unfoldable pub tryNumber : List ℕ → ℕ → ℕ → ℕ → ℕ → Outcome (Option C.Linked)
@@ -39,7 +40,7 @@ tryNumber f c list k t = methodSpot f c list k >>= onward (tryUnder f t)
 
 -- "Asking which try covers an address answers "none" exactly when no try does.": without code no try does
 unfoldable pub coverUnder : List ℕ → ℕ → Spot → Outcome (Option ℕ)
-coverUnder f address s = C.coveringOf (section f (s .header)) (frame-of (s .header) 0) (s .place) address
+coverUnder f address s = C.coveringOf (up-to-end f (s .header)) (plain-frame (s .header)) (s .place) address
 
 unfoldable pub coveringTry : List ℕ → ℕ → ℕ → ℕ → ℕ → Outcome (Option ℕ)
 coveringTry f c list k address = methodSpot f c list k >>= onward (coverUnder f address)
@@ -53,7 +54,7 @@ handlerCount f c list k = methodCode f c list k >>= onward handlersIn
 
 unfoldable pub handlerUnder : List ℕ → ℕ → Spot → Outcome (Option C.Handed)
 handlerUnder f h s = do
-  x ← C.handlerOf (section f (s .header)) (frame-of (s .header) 0) (s .place) h
+  x ← C.handlerOf (up-to-end f (s .header)) (plain-frame (s .header)) (s .place) h
   answer (some x)
 
 unfoldable pub handlerNumber : List ℕ → ℕ → ℕ → ℕ → ℕ → Outcome (Option C.Handed)
@@ -61,7 +62,7 @@ handlerNumber f c list k h = methodSpot f c list k >>= onward (handlerUnder f h)
 
 unfoldable pub pairUnder : List ℕ → ℕ → ℕ → Spot → Outcome (Option Pair)
 pairUnder f h p s = do
-  x ← C.pairOf (section f (s .header)) (frame-of (s .header) 0) (s .place) h p
+  x ← C.pairOf (up-to-end f (s .header)) (plain-frame (s .header)) (s .place) h p
   answer (some x)
 
 unfoldable pub handlerPair : List ℕ → ℕ → ℕ → ℕ → ℕ → ℕ → Outcome (Option Pair)
@@ -71,7 +72,7 @@ handlerPair f c list k h p = methodSpot f c list k >>= onward (pairUnder f h p)
 unfoldable pub unitsUnder : List ℕ → ℕ → Spot → Outcome (Option ℕ)
 unitsUnder f room s = do
   c ← codeIn f s
-  given (leb (length (c .units)) room) 19 0 (answer (some (length (c .units))))
+  given (leb (length (c .units)) room) no-room (answer (some (length (c .units))))
 
 unfoldable pub methodUnits : List ℕ → ℕ → ℕ → ℕ → ℕ → Outcome (Option ℕ)
 methodUnits f c list k room = methodSpot f c list k >>= onward (unitsUnder f room)
@@ -92,8 +93,8 @@ unitsContent f c list k out = unitsIn f (methodSpot f c list k) out
 -- ---- a stage of the code: so many units from where they begin
 unfoldable pub unitsInto : List ℕ → Spot → ℕ → ℕ → Outcome (Option ℕ)
 unitsInto f s count room = do
-  n ← intoAt (length (section f (s .header))) (s .place + 16) count room
+  n ← intoAt (length (up-to-end f (s .header))) (s .place + 16) count room
   answer (some n)
 
 unfoldable pub unitsWritten : List ℕ → Spot → ℕ → List ℕ → List ℕ
-unitsWritten f s count out = leftAt (s .header .order) (section f (s .header)) (s .place + 16) count out
+unitsWritten f s count out = leftAt (s .header .order) (up-to-end f (s .header)) (s .place + 16) count out

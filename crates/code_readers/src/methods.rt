@@ -26,7 +26,7 @@ fn outline_under(f: &[u8], s: Spot) -> MaybeCodeAnswer
 {
     let h = s.header;
     match code_item::code_at(
-        header::section_of(f, h),
+        header::up_to_end(f, h),
         header::frame_of(h, 0),
         s.place as usize,
     ) {
@@ -62,7 +62,7 @@ fn try_under(f: &[u8], s: Spot, t: u32) -> MaybeTryAnswer
 {
     let h = s.header;
     match code_item::try_at(
-        header::section_of(f, h),
+        header::up_to_end(f, h),
         header::frame_of(h, 0),
         s.place as usize,
         t,
@@ -88,7 +88,7 @@ fn cover_under(f: &[u8], s: Spot, address: u32) -> CoveringTryAnswer
 {
     let h = s.header;
     code_item::covering_try(
-        header::section_of(f, h),
+        header::up_to_end(f, h),
         header::frame_of(h, 0),
         s.place as usize,
         address,
@@ -111,7 +111,7 @@ fn handler_under(f: &[u8], s: Spot, number: u32) -> MaybeHandlerAnswer
 {
     let h = s.header;
     match code_item::handler_at(
-        header::section_of(f, h),
+        header::up_to_end(f, h),
         header::frame_of(h, 0),
         s.place as usize,
         number,
@@ -137,7 +137,7 @@ fn pair_under(f: &[u8], s: Spot, number: u32, p: u32) -> MaybePairAnswer
 {
     let h = s.header;
     match code_item::pair_at(
-        header::section_of(f, h),
+        header::up_to_end(f, h),
         header::frame_of(h, 0),
         s.place as usize,
         number,
@@ -167,7 +167,7 @@ fn units_into(f: &[u8], s: Spot, count: u32, out: &mut [u16]) -> MaybeCountAnswe
     let h = s.header;
     let order = h.order;
     match code_units::units_into(
-        header::section_of(f, h),
+        header::up_to_end(f, h),
         order,
         s.place as usize + 16,
         count,
@@ -184,7 +184,7 @@ fn units_under(f: &[u8], s: Spot, out: &mut [u16]) -> MaybeCountAnswer
 {
     let h = s.header;
     match code_item::code_at(
-        header::section_of(f, h),
+        header::up_to_end(f, h),
         header::frame_of(h, 0),
         s.place as usize,
     ) {

@@ -9,6 +9,7 @@ use borrow.Author.Needs.{needs}
 use borrow.Author.Tests.{le-leb, lt-leb}
 use native.Mathlib.Numerals.{add-one}
 use native.Mathlib.Omega.{arith}
+use Rattle.refusal.specs.Refusals.{no-room, runs-past}
 use Rattle.refusal.specs.Outcome.{answer, refused}
 use Rattle.refusal.proofs.Laws.{passes, fails}
 use Rattle.word.specs.Words.{u16At}
@@ -62,7 +63,7 @@ module _ {o : Endian} {s : List ℕ} {start count : ℕ} {before out : List ℕ}
 
 -- ---- what `units_into` answers, and what it leaves
 module _ (o : Endian) (s : List ℕ) (start count : ℕ) (out : List ℕ) where
-  cut : length s < start + 2 * count → refused (record { number = 9; place = start }) ≡ intoAt (length s) start count (length out)
+  cut : length s < start + 2 * count → refused (runs-past start) ≡ intoAt (length s) start count (length out)
   unfolding intoAt
   cut h = fails _ (lt-leb (start + 2 * count) (length s) h)
 
@@ -70,23 +71,23 @@ module _ (o : Endian) (s : List ℕ) (start count : ℕ) (out : List ℕ) where
   unfolding leftAt
   uncut h = rw (lt-leb (start + 2 * count) (length s) h)
 
-  pub into-low : length s < start → refused (record { number = 9; place = start }) ≡ intoAt (length s) start count (length out)
+  pub into-low : length s < start → refused (runs-past start) ≡ intoAt (length s) start count (length out)
   into-low h = cut (omega arith)
 
   pub left-low : length s < start → out ≡ leftAt o s start count out
   left-low h = uncut (omega arith)
 
   module _ (p : start ≤ length s) where
-    pub into-cut : length s - start < 2 * count → refused (record { number = 9; place = start }) ≡ intoAt (length s) start count (length out)
+    pub into-cut : length s - start < 2 * count → refused (runs-past start) ≡ intoAt (length s) start count (length out)
     into-cut h = cut (omega arith)
 
     pub left-cut : length s - start < 2 * count → out ≡ leftAt o s start count out
     left-cut h = uncut (omega arith)
 
     module _ (q : 2 * count ≤ length s - start) where
-      pub into-short : length out < count → refused (record { number = 19; place = 0 }) ≡ intoAt (length s) start count (length out)
+      pub into-short : length out < count → refused no-room ≡ intoAt (length s) start count (length out)
       unfolding intoAt
-      into-short h = passes 9 start (le-leb (start + 2 * count) (length s) (omega arith)) (fails _ (lt-leb count (length out) h))
+      into-short h = passes (runs-past start) (le-leb (start + 2 * count) (length s) (omega arith)) (fails _ (lt-leb count (length out) h))
 
       pub left-short : length out < count → out ≡ leftAt o s start count out
       unfolding leftAt
@@ -94,7 +95,7 @@ module _ (o : Endian) (s : List ℕ) (start count : ℕ) (out : List ℕ) where
 
       pub into-done : count ≤ length out → answer count ≡ intoAt (length s) start count (length out)
       unfolding intoAt
-      into-done h = passes 9 start (le-leb (start + 2 * count) (length s) (omega arith)) (passes 19 0 (le-leb count (length out) h) refl)
+      into-done h = passes (runs-past start) (le-leb (start + 2 * count) (length s) (omega arith)) (passes no-room (le-leb count (length out) h) refl)
 
       pub left-done : {now : List ℕ} → count ≤ length out → now ≡ filled (unitsAt o s start count) out → now ≡ leftAt o s start count out
       unfolding leftAt

@@ -4,6 +4,7 @@ use mathlib.Core.Bool.{cond}
 use mathlib.Core.List.{List, [], _∷_, _++_}
 use lib.ListN.{length, drop}
 use lib.Dec.{leb}
+use Rattle.refusal.specs.Refusals.{no-room, runs-past}
 use Rattle.refusal.specs.Outcome.{Outcome, answer, given}
 use Rattle.word.specs.Words.{u16At}
 use Rattle.word.specs.declared.Endian.{Endian}
@@ -19,7 +20,7 @@ filled vs out = vs ++ drop (length vs) out
 
 -- "19: a lent output is shorter than the whole answer"; units that are not there are 9
 unfoldable pub intoAt : ℕ → ℕ → ℕ → ℕ → Outcome ℕ
-intoAt len start count room = given (leb (start + 2 * count) len) 9 start (given (leb count room) 19 0 (answer count))
+intoAt len start count room = given (leb (start + 2 * count) len) (runs-past start) (given (leb count room) no-room (answer count))
 
 -- the output afterwards: "Refusals change no lent byte or unit. Success writes the answer's places and no others."
 unfoldable pub leftAt : Endian → List ℕ → ℕ → ℕ → List ℕ → List ℕ

@@ -7,6 +7,7 @@ use mathlib.Core.Option.{Option, none, some}
 use mathlib.Core.List.{List, [], _∷_}
 use lib.ListN.{length, getD}
 use native.Mathlib.Omega.{arith}
+use Rattle.refusal.specs.Refusals.{runs-past, wrong-index}
 use Rattle.refusal.specs.Rows.{Found, Next, more, ends}
 use Rattle.refusal.specs.Exact.{Exact, Decides, Ended, over, longer, At, here, there}
 use Rattle.refusal.proofs.Exact.{same, answer-exact, given-exact, bind-exact, either-exact, exact-iff, below, decided-yes}
@@ -27,7 +28,7 @@ named-decides strings (some v) = below v strings
 pub name-exact : (s : List ℕ) (strings item p : ℕ) → Exact (nameAt s strings item p) (λ (r : Found (Option ℕ) ℕ). NameRule s strings p (r .item) (r .next))
 unfolding nameAt
 name-exact s strings item p =
-    exact-iff (bind-exact _ _ (plus-one-exact s item p) (λ n. given-exact 11 item (named-decides strings (n .item)) (answer-exact n)))
+    exact-iff (bind-exact _ _ (plus-one-exact s item p) (λ n. given-exact (wrong-index item) (named-decides strings (n .item)) (answer-exact n)))
     (λ r h. subst (λ (x : Found (Option ℕ) ℕ). NameRule s strings p (x .item) (x .next)) (h .1 .1 .1) (record { number = h .1 .0; below = h .1 .1 .0 }))
     (λ r h. (r, (h .number, (h .below, refl))))
 
@@ -47,7 +48,7 @@ record End (s : List ℕ) (p q : ℕ) : Type 0 where
 opcode-exact : (s : List ℕ) (item p : ℕ) → Exact (opcodeAt s item p) (Stepped (opcodeAt s item) (Step s) (End s) p)
 unfolding opcodeAt
 opcode-exact s item p =
-    exact-iff (given-exact 9 item (below p (length s)) (either-exact (below 0 (getD s p 0)) (answer-exact (more (getD s p 0) (p + 1))) (answer-exact (ends p))))
+    exact-iff (given-exact (runs-past item) (below p (length s)) (either-exact (below 0 (getD s p 0)) (answer-exact (more (getD s p 0) (p + 1))) (answer-exact (ends p))))
     (λ r h. found r (h .0) (h .1))
     parted
   where
@@ -103,7 +104,7 @@ module _ (s : List ℕ) where
 pub program-exact : (s : List ℕ) (item p : ℕ) → Exact (programAt s item p) (λ (r : Found (List ℕ) ℕ). ProgramRule s p (r .item) (r .next))
 unfolding programAt
 program-exact s item p =
-    exact-iff (until-exact (opcodeAt s item) (Step s) (End s) (opcode-exact s item) 9 item (length s - p) p)
+    exact-iff (until-exact (opcodeAt s item) (Step s) (End s) (opcode-exact s item) (runs-past item) (length s - p) p)
     (λ r h. program-sound s (h .0))
     (λ r h. (program-complete s (r .item) p (r .next) h, let e = h .stands .ends in let room = h .room in omega arith))
 

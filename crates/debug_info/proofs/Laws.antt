@@ -10,6 +10,7 @@ use lib.Dec.{ltb, eqb}
 use borrow.Author.Needs.{needs}
 use borrow.Author.Tests.{lt-ltb, le-ltb}
 use native.Mathlib.Omega.{arith}
+use Rattle.refusal.specs.Refusals.{not-there, runs-past}
 use Rattle.refusal.specs.declared.Refusal.{Refusal}
 use Rattle.refusal.specs.Outcome.{Outcome, answer, refused, _>>=_, given}
 use Rattle.refusal.specs.Rows.{Found, past, collect}
@@ -76,11 +77,11 @@ module _ {s : List ℕ} {strings item from count k left p i : ℕ} {kept : Name}
 pub record Head (s : List ℕ) (item start p : ℕ) : Type 0 where
   left : ℕ
   enough : length s ≤ p + left
-  ending : Ending (opcodeAt s item) 9 item (programAt s item start) (λ (l : List ℕ). Unit) left p
+  ending : Ending (opcodeAt s item) (runs-past item) (programAt s item start) (λ (l : List ℕ). Unit) left p
 
 pub head-first : (s : List ℕ) (item start : ℕ) → Head s item start start
 unfolding programAt
-head-first s item start = record { left = length s - start; enough = omega arith; ending = ending-first (opcodeAt s item) 9 item (λ (l : List ℕ). Unit) (length s - start) start tt }
+head-first s item start = record { left = length s - start; enough = omega arith; ending = ending-first (opcodeAt s item) (runs-past item) (λ (l : List ℕ). Unit) (length s - start) start tt }
 
 module _ {s : List ℕ} {item start p : ℕ} (h : Head s item start p) where
   pub head-next : p < length s → 0 < getD s p 0 → Head s item start (p + 1)
@@ -90,21 +91,21 @@ module _ {s : List ℕ} {item start p : ℕ} (h : Head s item start p) where
       record {
         left = h .left - 1;
         enough = omega arith;
-        ending = ending-next (h .ending) (λ (l : List ℕ). Unit) (omega arith) (passes 9 item (lt-ltb p (length s) i) (picks _ (lt-ltb 0 (getD s p 0) q) refl)) (λ l k. tt);
+        ending = ending-next (h .ending) (λ (l : List ℕ). Unit) (omega arith) (passes (runs-past item) (lt-ltb p (length s) i) (picks _ (lt-ltb 0 (getD s p 0) q) refl)) (λ l k. tt);
       }
 
   pub head-done : p < length s → getD s p 0 ≤ 0 → answer p ≡ zeroAt s item start
   unfolding zeroAt opcodeAt
   head-done i q =
       let g = h .enough in
-      let d = ending-done (h .ending) (omega arith) (passes 9 item (lt-ltb p (length s) i) (leaves _ (le-ltb 0 (getD s p 0) q) refl)) in
+      let d = ending-done (h .ending) (omega arith) (passes (runs-past item) (lt-ltb p (length s) i) (leaves _ (le-ltb 0 (getD s p 0) q) refl)) in
       sym (bind-answer past (sym (d .1 .1)))
 
-  pub head-end : length s ≤ p → refused (record { number = 9; place = item }) ≡ zeroAt s item start
+  pub head-end : length s ≤ p → refused (runs-past item) ≡ zeroAt s item start
   unfolding zeroAt opcodeAt
   head-end i = go (h .left) (h .ending)
     where
-      go : (n : ℕ) → Ending (opcodeAt s item) 9 item (programAt s item start) (λ (l : List ℕ). Unit) n p → refused (record { number = 9; place = item }) ≡ zeroAt s item start
+      go : (n : ℕ) → Ending (opcodeAt s item) (runs-past item) (programAt s item start) (λ (l : List ℕ). Unit) n p → refused (runs-past item) ≡ zeroAt s item start
       go zero e = sym (bind-refused past (sym (ending-full e (omega arith))))
       go (suc n) e = sym (bind-refused past (sym (ending-stop e (omega arith) (fails _ (le-ltb p (length s) i)))))
 
@@ -177,9 +178,9 @@ module _ (s : List ℕ) (strings item : ℕ) where
   unfolding extentAt _>>=_
   extent-by e = e ∙ ap (λ (o : Outcome Held). o >>= λ (h : Held). answer (record { line = h .line; names = h .names; start = h .start; length = h .length })) (kept-whole 0) ∙ bind-assoc (debugAt s strings item) (holding 0) _
 
-  pub name-by : (k : ℕ) {y : Outcome (Option ℕ)} → y ≡ (keptDebugAt s strings item k >>= λ (h : Held). given (ltb k (h .names)) 7 0 (answer (h .name))) → y ≡ nameOf s strings item k
+  pub name-by : (k : ℕ) {y : Outcome (Option ℕ)} → y ≡ (keptDebugAt s strings item k >>= λ (h : Held). given (ltb k (h .names)) not-there (answer (h .name))) → y ≡ nameOf s strings item k
   unfolding nameOf _>>=_
-  name-by k e = e ∙ ap (λ (o : Outcome Held). o >>= λ (h : Held). given (ltb k (h .names)) 7 0 (answer (h .name))) (kept-whole k) ∙ bind-assoc (debugAt s strings item) (holding k) _
+  name-by k e = e ∙ ap (λ (o : Outcome Held). o >>= λ (h : Held). given (ltb k (h .names)) not-there (answer (h .name))) (kept-whole k) ∙ bind-assoc (debugAt s strings item) (holding k) _
 
 -- ---- where debug information that was read lies: its program after its place, and with the zero byte inside the slice
 pub record Lies (s : List ℕ) (item start size : ℕ) : Type 0 where

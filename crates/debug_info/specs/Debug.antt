@@ -5,6 +5,7 @@ use mathlib.Core.Option.{Option, none, some}
 use mathlib.Core.List.{List}
 use lib.ListN.{length, getD}
 use lib.Dec.{ltb}
+use Rattle.refusal.specs.Refusals.{not-there, runs-past, wrong-index}
 use Rattle.refusal.specs.Outcome.{Outcome, answer, _>>=_, given}
 use Rattle.refusal.specs.Rows.{Found, past, Next, more, ends, collect, until}
 use Rattle.refusal.specs.Choose.{choose}
@@ -19,15 +20,15 @@ named strings (some v) = ltb v strings
 unfoldable pub nameAt : List ℕ → ℕ → ℕ → ℕ → Outcome (Found (Option ℕ) ℕ)
 nameAt s strings item p = do
   n ← plusOneAt s item p
-  given (named strings (n .item)) 11 item (answer n)
+  given (named strings (n .item)) (wrong-index item) (answer n)
 
 -- one byte of a line program, or the zero byte that ends it
 unfoldable pub opcodeAt : List ℕ → ℕ → ℕ → Outcome (Next ℕ ℕ)
-opcodeAt s item p = given (ltb p (length s)) 9 item (cond (ltb 0 (getD s p 0)) (answer (more (getD s p 0) (p + 1))) (answer (ends p)))
+opcodeAt s item p = given (ltb p (length s)) (runs-past item) (cond (ltb 0 (getD s p 0)) (answer (more (getD s p 0) (p + 1))) (answer (ends p)))
 
 -- "a line program that ends at the first zero byte, handed back without it": its bytes, and the place of the zero
 unfoldable pub programAt : List ℕ → ℕ → ℕ → Outcome (Found (List ℕ) ℕ)
-programAt s item p = until (length s - p) 9 item (opcodeAt s item) p
+programAt s item p = until (length s - p) (runs-past item) (opcodeAt s item) p
 
 -- what the bytes say: where the line program begins, and its bytes
 pub record Debug : Type 0 where
@@ -61,7 +62,7 @@ extentAt s strings item = do
 unfoldable pub nameOf : List ℕ → ℕ → ℕ → ℕ → Outcome (Option ℕ)
 nameOf s strings item k = do
   d ← debugAt s strings item
-  given (ltb k (length (d .names))) 7 0 (answer (getD (d .names) k none))
+  given (ltb k (length (d .names))) not-there (answer (getD (d .names) k none))
 
 -- ---- stages of the code, which keeps one name and the places alone
 unfoldable pub keptNames : List ℕ → ℕ → ℕ → ℕ → ℕ → ℕ → Outcome (Found (Option ℕ) ℕ)

@@ -15,7 +15,7 @@ use Rattle.refusal.proofs.Laws.{said, calls}
 use Rattle.word.specs.Bytes.{stretch, part}
 use Rattle.word.proofs.Laws.{part-whole}
 use Rattle.header.specs.declared.Header.{Header}
-use Rattle.header.specs.Header.{section}
+use Rattle.header.specs.Header.{up-to-end}
 use Rattle.debug_info.specs.declared.DebugAnswer.{DebugAnswer}
 use Rattle.debug_info.specs.declared.NameAnswer.{NameAnswer}
 use Rattle.debug_info.specs.Debug.{Debug, debugAt, Extent, extentAt, nameOf}
@@ -29,11 +29,11 @@ use Rattle.debug_readers.specs.Debug.{wholeUnder, debugWhole, extentUnde
 use Rattle.debug_readers.specs.Answers.{maybe-debug}
 
 -- ---- debug information that was read in the file up to the data section's end, s
-module _ (f : List ℕ) (h : Header) (n p : ℕ) {s : List ℕ} {B : Type 0} {y : Outcome B} (e : s ≡ section f h) where
-  pub debug-framed : {x c : DebugAnswer} (k : Extent → Outcome B) → debug-outcome x ≡ extentAt s n p → x ≡ c → y ≡ (debug-outcome c >>= k) → y ≡ (extentAt (section f h) n p >>= k)
+module _ (f : List ℕ) (h : Header) (n p : ℕ) {s : List ℕ} {B : Type 0} {y : Outcome B} (e : s ≡ up-to-end f h) where
+  pub debug-framed : {x c : DebugAnswer} (k : Extent → Outcome B) → debug-outcome x ≡ extentAt s n p → x ≡ c → y ≡ (debug-outcome c >>= k) → y ≡ (extentAt (up-to-end f h) n p >>= k)
   debug-framed k q t w = said debug-outcome k (q ∙ ap (λ (l : List ℕ). extentAt l n p) e) t w
 
-  pub name-framed : {x c : NameAnswer} (m : ℕ) (k : Option ℕ → Outcome B) → name-outcome x ≡ nameOf s n p m → x ≡ c → y ≡ (name-outcome c >>= k) → y ≡ (nameOf (section f h) n p m >>= k)
+  pub name-framed : {x c : NameAnswer} (m : ℕ) (k : Option ℕ → Outcome B) → name-outcome x ≡ nameOf s n p m → x ≡ c → y ≡ (name-outcome c >>= k) → y ≡ (nameOf (up-to-end f h) n p m >>= k)
   name-framed m k q t w = said name-outcome k (q ∙ ap (λ (l : List ℕ). nameOf l n p m) e) t w
 
 -- ---- the line program
@@ -43,11 +43,11 @@ unfolding stretch
 stretch-take f e p zero h = refl
 stretch-take f e p (suc n) h = λ i. getD-take e f p 0 (omega arith) i ∷ stretch-take f e (p + 1) n (omega arith) i
 
-lies-in : (f : List ℕ) (s : Spot) (d : Debug) → debugAt (section f (s .header)) (s .header .strings .count) (s .place) ≡ answer d → part f (d .start) (length (d .program)) ≡ d .program
-unfolding section
+lies-in : (f : List ℕ) (s : Spot) (d : Debug) → debugAt (up-to-end f (s .header)) (s .header .strings .count) (s .place) ≡ answer d → part f (d .start) (length (d .program)) ≡ d .program
+unfolding up-to-end
 lies-in f s d e =
     let end = s .header .end in
-    let stands = debug-exact (section f (s .header)) (s .header .strings .count) (s .place) .sound d e .program .stands in
+    let stands = debug-exact (up-to-end f (s .header)) (s .header .strings .count) (s .place) .sound d e .program .stands in
     let ends = stands .ends in
     let inside = stands .inside in
     let size = length-take end f in
@@ -69,13 +69,13 @@ module _ (f : List ℕ) (c list k : ℕ) where
   unfolding debugWhole wholeUnder onward _>>=_
   whole-lies = go (debugSpot f c list k)
     where
-      under : (s : Spot) (o : Outcome Debug) → debugAt (section f (s .header)) (s .header .strings .count) (s .place) ≡ o → Lying f (o >>= λ (d : Debug). answer (some d))
+      under : (s : Spot) (o : Outcome Debug) → debugAt (up-to-end f (s .header)) (s .header .strings .count) (s .place) ≡ o → Lying f (o >>= λ (d : Debug). answer (some d))
       under s (answer d) e = lies-in f s d e
       under s (refused r) e = tt
 
       go : (o : Outcome (Option Spot)) → Lying f (o >>= onward (wholeUnder f))
       go (answer none) = tt
-      go (answer (some s)) = under s (debugAt (section f (s .header)) (s .header .strings .count) (s .place)) refl
+      go (answer (some s)) = under s (debugAt (up-to-end f (s .header)) (s .header .strings .count) (s .place)) refl
       go (refused r) = tt
 
   -- what is handed out is of the whole
@@ -90,7 +90,7 @@ module _ (f : List ℕ) (c list k : ℕ) where
 
       go : (o : Outcome (Option Spot)) → (o >>= onward (extentUnder f)) ≡ ((o >>= onward (wholeUnder f)) >>= onward handed)
       go (answer none) = refl
-      go (answer (some s)) = under (debugAt (section f (s .header)) (s .header .strings .count) (s .place))
+      go (answer (some s)) = under (debugAt (up-to-end f (s .header)) (s .header .strings .count) (s .place))
       go (refused r) = refl
 
   -- which of the three an outcome is, and what it hands out

@@ -3,7 +3,7 @@ use Prim.Native.Nat.{ℕ}
 use mathlib.Core.Option.{Option, none, some}
 use mathlib.Core.List.{List, []}
 use Rattle.refusal.specs.Outcome.{Outcome, answer, refused, _>>=_}
-use Rattle.header.specs.Header.{section}
+use Rattle.header.specs.Header.{up-to-end}
 use Rattle.debug_info.specs.Debug as D
 use Rattle.class_readers.specs.declared.Spot.{Spot}
 use Rattle.class_readers.specs.Spots.{onward, debugSpot}
@@ -11,7 +11,7 @@ use Rattle.class_readers.specs.Spots.{onward, debugSpot}
 -- the whole, as the bytes say it
 unfoldable pub wholeUnder : List ℕ → Spot → Outcome (Option D.Debug)
 wholeUnder f s = do
-  d ← D.debugAt (section f (s .header)) (s .header .strings .count) (s .place)
+  d ← D.debugAt (up-to-end f (s .header)) (s .header .strings .count) (s .place)
   answer (some d)
 
 unfoldable pub debugWhole : List ℕ → ℕ → ℕ → ℕ → Outcome (Option D.Debug)
@@ -20,7 +20,7 @@ debugWhole f c list k = debugSpot f c list k >>= onward (wholeUnder f)
 -- the starting line, how many names, and where the program lies
 unfoldable pub extentUnder : List ℕ → Spot → Outcome (Option D.Extent)
 extentUnder f s = do
-  e ← D.extentAt (section f (s .header)) (s .header .strings .count) (s .place)
+  e ← D.extentAt (up-to-end f (s .header)) (s .header .strings .count) (s .place)
   answer (some e)
 
 unfoldable pub methodDebug : List ℕ → ℕ → ℕ → ℕ → Outcome (Option D.Extent)
@@ -29,7 +29,7 @@ methodDebug f c list k = debugSpot f c list k >>= onward (extentUnder f)
 -- name p: a string's number, or no name
 unfoldable pub nameUnder : List ℕ → ℕ → Spot → Outcome (Option (Option ℕ))
 nameUnder f p s = do
-  n ← D.nameOf (section f (s .header)) (s .header .strings .count) (s .place) p
+  n ← D.nameOf (up-to-end f (s .header)) (s .header .strings .count) (s .place) p
   answer (some n)
 
 unfoldable pub parameterName : List ℕ → ℕ → ℕ → ℕ → ℕ → Outcome (Option (Option ℕ))

@@ -14,7 +14,7 @@ fn extent_under(f: &[u8], s: Spot) -> MaybeDebugAnswer
 {
     let h = s.header;
     let strings = h.strings;
-    match debug_info::debug_at(header::section_of(f, h), strings.count, s.place as usize) {
+    match debug_info::debug_at(header::up_to_end(f, h), strings.count, s.place as usize) {
         DebugAnswer::Refused(r) => MaybeDebugAnswer::Refused(r),
         DebugAnswer::Got {
             line,
@@ -46,7 +46,7 @@ fn name_under(f: &[u8], s: Spot, p: u32) -> MaybeNameAnswer
 {
     let h = s.header;
     let strings = h.strings;
-    match debug_info::name_at(header::section_of(f, h), strings.count, s.place as usize, p) {
+    match debug_info::name_at(header::up_to_end(f, h), strings.count, s.place as usize, p) {
         NameAnswer::Refused(r) => MaybeNameAnswer::Refused(r),
         NameAnswer::Got(name) => MaybeNameAnswer::Got(name),
     }

@@ -100,7 +100,7 @@ fn raise(x: u64, n: u32, w: u32) -> u64
 }
 
 // The float of a pattern. from_bits is not defined at a NaN's pattern, so there one is made by 0 / 0.
-pub fn f32_of(bits: u32) -> f32
+fn f32_of(bits: u32) -> f32
     ensures { λ r. ⌜ r ≡ ofBits binary32 bits ⌝ }
 {
     if bits % 2147483648 / 8388608 == 255 {
@@ -112,7 +112,7 @@ pub fn f32_of(bits: u32) -> f32
     f32::from_bits(bits)
 }
 
-pub fn f64_of(bits: u64) -> f64
+fn f64_of(bits: u64) -> f64
     ensures { λ r. ⌜ r ≡ ofBits binary64 bits ⌝ }
 {
     if bits % 9223372036854775808 / 4503599627370496 == 2047 {

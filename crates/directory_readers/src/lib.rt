@@ -30,13 +30,13 @@ pub enum DirectoryAnswer {
     Refused(Refusal),
 }
 
-fn directory_in(f: &[u8], h: Header, c: u32) -> ReachedAnswer
-    ensures { λ r. ⌜ reached-outcome r ≡ directoryIn (now (f .entry)) c h ⌝ }
+fn directory_in(f: &[u8], header: Header, c: u32) -> ReachedAnswer
+    ensures { λ r. ⌜ reached-outcome r ≡ directoryIn (now (f .entry)) c header ⌝ }
 {
-    match table_readers::class_in(f, h, c) {
+    match table_readers::class_in(f, header, c) {
         ClassAnswer::Refused(r) => ReachedAnswer::Refused(r),
         ClassAnswer::Got(found) => ReachedAnswer::Got(Reached {
-            header: h,
+            header: header,
             place: found.directory,
         }),
     }
@@ -53,13 +53,13 @@ pub fn directory_of(f: &[u8], c: u32) -> ReachedAnswer
 }
 
 // The directory at a place, none at 0.
-pub fn head_in(f: &[u8], h: Header, at: u32) -> DirectoryAnswer
-    ensures { λ r. ⌜ directory-outcome r ≡ headIn (now (f .entry)) h at ⌝ }
+pub fn head_in(f: &[u8], header: Header, at: u32) -> DirectoryAnswer
+    ensures { λ r. ⌜ directory-outcome r ≡ headIn (now (f .entry)) header at ⌝ }
 {
     if 0 < at {
         return match annotation_directories::directory(
-            header::section_of(f, h),
-            header::frame_of(h, 0),
+            header::up_to_end(f, header),
+            header::frame_of(header, 0),
             at as usize,
         ) {
             DirectoryHeadAnswer::Refused(r) => DirectoryAnswer::Refused(r),
@@ -83,13 +83,13 @@ pub fn directory(f: &[u8], c: u32) -> DirectoryAnswer
 }
 
 // Entry k of a list of the directory at a place: at 0 there are none.
-pub fn entry_in(f: &[u8], h: Header, at: u32, list: u32, k: u32) -> DirectoryEntryAnswer
-    ensures { λ r. ⌜ directory-entry-outcome r ≡ entryIn (now (f .entry)) h at list k ⌝ }
+pub fn entry_in(f: &[u8], header: Header, at: u32, list: u32, k: u32) -> DirectoryEntryAnswer
+    ensures { λ r. ⌜ directory-entry-outcome r ≡ entryIn (now (f .entry)) header at list k ⌝ }
 {
     if 0 < at {
         return annotation_directories::directory_entry(
-            header::section_of(f, h),
-            header::frame_of(h, 0),
+            header::up_to_end(f, header),
+            header::frame_of(header, 0),
             at as usize,
             list,
             k,

@@ -10,6 +10,7 @@ use lib.Seq.{take-length}
 use borrow.Author.Needs.{needs}
 use borrow.Author.Tests.{eq-eqb, ne-eqb}
 use native.Mathlib.Omega.{arith}
+use Rattle.refusal.specs.Refusals.{nested-too-deep}
 use Rattle.refusal.specs.declared.Refusal.{Refusal}
 use Rattle.refusal.specs.Outcome.{Outcome, answer, refused, _>>=_}
 use Rattle.refusal.specs.Rows.{Found, past, repeat, collect}
@@ -110,7 +111,7 @@ module _ (s : List ℕ) (w : Walk) where
       bodyless-refused v = λ left. value-plain left p e t n m (sym (ap step-outcome v) ∙ k)
 
   -- ---- a body that may not be opened
-  pub body-deep : (named : Bool) (left p : ℕ) → left ≤ 0 → refused (record { number = 13; place = w .item }) ≡ pastBody s w named left p
+  pub body-deep : (named : Bool) (left p : ℕ) → left ≤ 0 → refused (nested-too-deep (w .item)) ≡ pastBody s w named left p
   unfolding pastBody arrayAt annotationAt _>>=_
   body-deep true left p l = let z : left ≡ 0 = omega arith in rw z
   body-deep false left p l = let z : left ≡ 0 = omega arith in rw z

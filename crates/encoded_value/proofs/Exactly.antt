@@ -6,6 +6,7 @@ use mathlib.Core.Logic.{_⊎_, inl, inr}
 use mathlib.Core.Bool.{Bool, true, false, cond}
 use mathlib.Core.List.{List}
 use native.Mathlib.Omega.{arith}
+use Rattle.refusal.specs.Refusals.{wrong-index}
 use Rattle.refusal.specs.Outcome.{Outcome}
 use Rattle.refusal.specs.Rows.{Found}
 use Rattle.refusal.specs.Exact.{Exact}
@@ -41,7 +42,7 @@ module _ (s : List ℕ) (w : Walk) where
   unfolding plainAt checkedAt
   plain-exact h p =
       exact-iff
-      (bind-exact _ _ (bind-exact _ _ (number-exact s (w .item) p (bytes-of h)) (λ n. given-exact 11 (w .item) (range-decides w (h % 32) (n .item)) (answer-exact n))) (λ n. answer-exact _))
+      (bind-exact _ _ (bind-exact _ _ (number-exact s (w .item) p (bytes-of h)) (λ n. given-exact (wrong-index (w .item)) (range-decides w (h % 32) (n .item)) (answer-exact n))) (λ n. answer-exact _))
       (λ r k. subst (λ (x : Found Tree ℕ). Plain s w h p (x .item) (x .next)) (k .1 .1) (checked (k .0) (k .1 .0)))
       (λ r k. (record { item = k .number; next = r .next }, ((record { item = k .number; next = r .next }, (k .bytes, (k .range, refl))), λ i. record { item = k .value i; next = r .next })))
     where

@@ -7,6 +7,7 @@ use mathlib.Core.List.{List}
 use lib.ListN.{length}
 use lib.Dec.{leb}
 use borrow.Author.Needs.{needs}
+use Rattle.refusal.specs.Refusals.{runs-past, wrong-index}
 use Rattle.refusal.specs.declared.Refusal.{Refusal}
 use Rattle.refusal.specs.Outcome.{Outcome, answer, refused, _>>=_, given}
 use Rattle.refusal.specs.Rows.{Found, past}
@@ -30,7 +31,7 @@ module _ (s : List ℕ) (item at h : ℕ) {n : ℕ} (size : n ≡ bytes-of h) {t
   pub bytes-there : t ≡ true → answer (at + n) ≡ (numberAt s item at (bytes-of h) >>= past)
   bytes-there m = sym (bind-answer past (sym (number-got s item at h size room m refl)))
 
-  pub bytes-short : t ≡ false → refused (record { number = 9; place = item }) ≡ (numberAt s item at (bytes-of h) >>= past)
+  pub bytes-short : t ≡ false → refused (runs-past item) ≡ (numberAt s item at (bytes-of h) >>= past)
   bytes-short m = sym (bind-refused past (sym (number-short s item at h size room m)))
 
 -- ---- a value that is no body, gone over
@@ -42,7 +43,7 @@ past-made make (answer n) = refl
 past-made make (refused r) = refl
 
 -- a test that always holds
-always : (test : ℕ → Bool) (place : ℕ) (o : Outcome (Found ℕ ℕ)) → ((x : ℕ) → test x ≡ true) → o ≡ (o >>= λ (n : Found ℕ ℕ). given (test (n .item)) 11 place (answer n))
+always : (test : ℕ → Bool) (place : ℕ) (o : Outcome (Found ℕ ℕ)) → ((x : ℕ) → test x ≡ true) → o ≡ (o >>= λ (n : Found ℕ ℕ). given (test (n .item)) (wrong-index place) (answer n))
 unfolding _>>=_ given
 always test place (answer n) h = rw (h (n .item))
 always test place (refused r) h = refl

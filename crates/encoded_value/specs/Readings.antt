@@ -3,6 +3,7 @@ use Prim.Native.Nat.{ℕ, zero, suc, _+_, _%_, _/_}
 use mathlib.Core.Bool.{cond}
 use mathlib.Core.List.{List}
 use lib.Dec.{eqb}
+use Rattle.refusal.specs.Refusals.{nested-too-deep}
 use Rattle.refusal.specs.Outcome.{Outcome, answer, refused, _>>=_}
 use Rattle.refusal.specs.Rows.{Found, past, collect}
 use Rattle.leb128.specs.Leb.{ulebAt}
@@ -61,7 +62,7 @@ module _ (s : List ℕ) (w : Walk) where
 
   -- "depth 65 is 13, before its first byte is read"
   abbrev pub too-deep : {A : Type 0} → ℕ → Outcome A
-  too-deep p = refused (record { number = 13; place = w .item })
+  too-deep p = refused (nested-too-deep (w .item))
 
   -- with so many bodies that may still be opened, one inside the other
   unfoldable pub valueAt : ℕ → ℕ → Outcome (Found Tree ℕ)

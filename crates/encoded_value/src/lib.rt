@@ -40,7 +40,7 @@ fn bytes_past(s: &[u8], item: usize, at: usize, head: u8) -> StepAnswer
 }
 
 // A value that is no body, behind its head byte: only an index is read to be checked.
-pub fn plain_past(s: &[u8], w: Walk, at: usize, head: u8) -> StepAnswer
+fn plain_past(s: &[u8], w: Walk, at: usize, head: u8) -> StepAnswer
     ensures { λ r. ⌜ step-outcome r ≡ pastPlain (now (s .entry)) w head at ⌝ }
 {
     if value_heads::is_index_code(head % 32) {

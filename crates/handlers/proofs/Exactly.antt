@@ -7,6 +7,7 @@ use mathlib.Core.Option.{Option, none, some}
 use mathlib.Core.List.{List, _∷_}
 use lib.ListN.{length}
 use native.Mathlib.Omega.{arith}
+use Rattle.refusal.specs.Refusals.{wrong-code, wrong-index}
 use Rattle.refusal.specs.Outcome.{answer, _>>=_}
 use Rattle.refusal.specs.Rows.{Found}
 use Rattle.refusal.specs.Exact.{Exact, Row, empty, first, At, Rising, Strict}
@@ -32,14 +33,14 @@ module _ (s : List ℕ) (j : HandlerJudge) where
   address-exact : (p : ℕ) → Exact (addressAt s j p) (λ (r : Found ℕ ℕ). AddressRule s j p (r .item) (r .next))
   unfolding addressAt
   address-exact p =
-      exact-iff (bind-exact _ _ (uleb-exact s (j .item) p) (λ a. given-exact 17 (j .item) (below (a .item) (j .units)) (answer-exact a)))
+      exact-iff (bind-exact _ _ (uleb-exact s (j .item) p) (λ a. given-exact (wrong-code (j .item)) (below (a .item) (j .units)) (answer-exact a)))
       (λ r h. subst (λ (x : Found ℕ ℕ). AddressRule s j p (x .item) (x .next)) (h .1 .1 .1) (record { number = h .1 .0; below = h .1 .1 .0 }))
       (λ r h. (r, (h .number, (h .below, refl))))
 
   pair-exact : (p : ℕ) → Exact (pairAt s j p) (λ (r : Found Pair ℕ). PairRule s j p (r .item) (r .next))
   unfolding pairAt
   pair-exact p =
-      exact-iff (bind-exact _ _ (uleb-exact s (j .item) p) (λ t. given-exact 11 (j .item) (below (t .item) (j .types)) (bind-exact _ _ (address-exact (t .next)) (λ a. answer-exact _))))
+      exact-iff (bind-exact _ _ (uleb-exact s (j .item) p) (λ t. given-exact (wrong-index (j .item)) (below (t .item) (j .types)) (bind-exact _ _ (address-exact (t .next)) (λ a. answer-exact _))))
       (λ r h. subst (λ (x : Found Pair ℕ). PairRule s j p (x .item) (x .next)) (h .1 .1 .1 .1 .1) (record { middle = h .0 .next; kind = h .1 .0; below = h .1 .1 .0; address = h .1 .1 .1 .1 .0 }))
       (λ r h. (record { item = r .item .kind; next = h .middle }, (h .kind, (h .below, (record { item = r .item .address; next = r .next }, (h .address, refl))))))
 
@@ -88,7 +89,7 @@ module _ (s : List ℕ) (j : HandlerJudge) where
   unfolding handlersAt
   handlers-exact =
       exact-iff
-      (bind-exact _ _ (uleb-exact s (j .item) (j .base)) (λ n. given-exact 17 (j .item) (below 0 (n .item))
+      (bind-exact _ _ (uleb-exact s (j .item) (j .base)) (λ n. given-exact (wrong-code (j .item)) (below 0 (n .item))
       (bind-exact _ _ (collect-exact (handlerAt s j) (HandlerRule s j) handler-exact (n .item) (n .next)) (λ l. answer-exact _))))
       (λ r h. subst (HandlersRule s j) (h .1 .1 .1 .1 .1) (record { count = h .0 .item; stored = h .1 .0; some-handler = h .1 .1 .0; handlers = h .1 .1 .1 .1 .0 }))
       (λ r h. (record { item = h .count; next = r .first }, (h .stored, (h .some-handler, (record { item = r .handlers; next = r .end }, (h .handlers, refl))))))

@@ -15,6 +15,7 @@ use native.Mathlib.Omega.{arith}
 use mir.Syntax.{w32}
 use mir.Val.{SFits, toZ, ofZ}
 use mir.ValLaws.{toZ-ofZ}
+use Rattle.refusal.specs.Refusals.{wrong-code}
 use Rattle.refusal.specs.declared.Refusal.{Refusal}
 use Rattle.refusal.specs.Outcome.{Outcome, answer, refused, _>>=_, given}
 use Rattle.refusal.specs.Rows.{Found, collect}
@@ -139,10 +140,10 @@ module _ {s : List ℕ} {j : HandlerJudge} {from count h k left p i : ℕ} {kept
   listing-done l = sym (bind-answer (briefly k) (sym (choosing-done (w .choosing) l)) ∙ λ i. answer (record { item = w .is i; next = p }))
 
 -- what follows a test that holds, under what comes after
-guarded : {A B : Type 0} (n p : ℕ) (t : Bool) (o : Outcome A) (f : A → Outcome B) {q : Outcome B} → (o >>= f) ≡ q → (given t n p o >>= f) ≡ given t n p q
+guarded : {A B : Type 0} (r : Refusal) (t : Bool) (o : Outcome A) (f : A → Outcome B) {q : Outcome B} → (o >>= f) ≡ q → (given t r o >>= f) ≡ given t r q
 unfolding given _>>=_
-guarded n p true o f e = e
-guarded n p false o f e = refl
+guarded r true o f e = e
+guarded r false o f e = refl
 
 -- ---- the stages: of a handler one pair is kept, of the list one handler
 module _ (s : List ℕ) (j : HandlerJudge) where
@@ -202,9 +203,9 @@ module _ (s : List ℕ) (j : HandlerJudge) where
           bind-answer {o = briefly k l} (λ (b : Found Brief ℕ). answer (record { count = n .item; brief = b .item; first = n .next; end = b .next })) refl i)
 
       rest : (n : Found ℕ ℕ)
-          → (given (ltb 0 (n .item)) 17 (j .item) (collect (n .item) (handlerAt s j) (n .next) >>= λ (l : Found (List Handler) ℕ). answer (record { first = n .next; handlers = l .item; end = l .next })) >>= keeping h k)
-          ≡ given (ltb 0 (n .item)) 17 (j .item) (keptList s j (n .next) (n .item) h k >>= λ (l : Found Brief ℕ). answer (record { count = n .item; brief = l .item; first = n .next; end = l .next }))
-      rest n = guarded 17 (j .item) (ltb 0 (n .item)) _ (keeping h k) (inner n)
+          → (given (ltb 0 (n .item)) (wrong-code (j .item)) (collect (n .item) (handlerAt s j) (n .next) >>= λ (l : Found (List Handler) ℕ). answer (record { first = n .next; handlers = l .item; end = l .next })) >>= keeping h k)
+          ≡ given (ltb 0 (n .item)) (wrong-code (j .item)) (keptList s j (n .next) (n .item) h k >>= λ (l : Found Brief ℕ). answer (record { count = n .item; brief = l .item; first = n .next; end = l .next }))
+      rest n = guarded (wrong-code (j .item)) (ltb 0 (n .item)) _ (keeping h k) (inner n)
 
 -- ---- calls, by the arm that was taken
 pub on-pair : {B : Type 0} {x c : PairFoundAnswer} {o : Outcome (Found Pair ℕ)} {y : Outcome B} (k : Found Pair ℕ → Outcome B) → pair-outcome x ≡ o → x ≡ c → y ≡ (pair-outcome c >>= k) → y ≡ (o >>= k)

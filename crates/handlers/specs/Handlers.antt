@@ -6,6 +6,7 @@ use mathlib.Core.List.{List, []}
 use lib.ListN.{length, getD}
 use lib.Dec.{ltb}
 use lib.IntN.{ℤ, pos, negsuc}
+use Rattle.refusal.specs.Refusals.{wrong-code, wrong-index}
 use Rattle.refusal.specs.Outcome.{Outcome, answer, _>>=_, given}
 use Rattle.refusal.specs.Rows.{Found, collect}
 use Rattle.refusal.specs.Choose.{choose}
@@ -25,12 +26,12 @@ catches (negsuc n) = true
 unfoldable pub addressAt : List ℕ → HandlerJudge → ℕ → Outcome (Found ℕ ℕ)
 addressAt s j p = do
   a ← ulebAt s (j .item) p
-  given (ltb (a .item) (j .units)) 17 (j .item) (answer a)
+  given (ltb (a .item) (j .units)) (wrong-code (j .item)) (answer a)
 
 unfoldable pub pairAt : List ℕ → HandlerJudge → ℕ → Outcome (Found Pair ℕ)
 pairAt s j p = do
   t ← ulebAt s (j .item) p
-  given (ltb (t .item) (j .types)) 11 (j .item) do
+  given (ltb (t .item) (j .types)) (wrong-index (j .item)) do
     a ← addressAt s j (t .next)
     answer (record { item = record { kind = t .item; address = a .item }; next = a .next })
 
@@ -66,7 +67,7 @@ pub record HandlerList : Type 0 where
 unfoldable pub handlersAt : List ℕ → HandlerJudge → Outcome HandlerList
 handlersAt s j = do
   n ← ulebAt s (j .item) (j .base)
-  given (ltb 0 (n .item)) 17 (j .item) do
+  given (ltb 0 (n .item)) (wrong-code (j .item)) do
     l ← collect (n .item) (handlerAt s j) (n .next)
     answer (record { first = n .next; handlers = l .item; end = l .next })
 
@@ -138,6 +139,6 @@ keptList s j from count h k = choose count (handlerAt s j) nobody h from >>= bri
 unfoldable pub stagedAt : List ℕ → HandlerJudge → ℕ → ℕ → Outcome KeptHandlers
 stagedAt s j h k = do
   n ← ulebAt s (j .item) (j .base)
-  given (ltb 0 (n .item)) 17 (j .item) do
+  given (ltb 0 (n .item)) (wrong-code (j .item)) do
     l ← keptList s j (n .next) (n .item) h k
     answer (record { count = n .item; brief = l .item; first = n .next; end = l .next })

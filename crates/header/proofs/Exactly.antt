@@ -8,6 +8,7 @@ use mathlib.Core.List.{List}
 use lib.ListN.{length, getD}
 use lib.Dec.{eqb, leb}
 use native.Mathlib.Omega.{arith}
+use Rattle.refusal.specs.Refusals.{file-too-long, file-too-short, out-of-bounds, wrong-magic, wrong-sizes, wrong-tag}
 use Rattle.refusal.specs.Exact.{Exact, Decides}
 use Rattle.refusal.proofs.Exact.{same, answer-exact, given-exact, bind-exact, either-exact, exact-iff, below, at-most, equal, both}
 use Rattle.word.specs.Words.{u32At}
@@ -71,7 +72,7 @@ module _ (f : List ℕ) where
 order-exact : (f : List ℕ) → Exact (orderAt f) (Tagged f)
 unfolding orderAt
 order-exact f =
-    exact-iff (either-exact (four-decides f 40 0x78 0x56 0x34 0x12) (answer-exact Little) (given-exact 4 0 (four-decides f 40 0x12 0x34 0x56 0x78) (answer-exact Big)))
+    exact-iff (either-exact (four-decides f 40 0x78 0x56 0x34 0x12) (answer-exact Little) (given-exact wrong-tag (four-decides f 40 0x12 0x34 0x56 0x78) (answer-exact Big)))
     there
     back
   where
@@ -112,7 +113,7 @@ table-decides len shape count offset = go (eqb count 0) refl
 table-exact : (f : List ℕ) (o : Endian) (shape : Shape) (p : ℕ) → Exact (tableAt f o shape p) (TableAt f o shape p)
 unfolding tableAt tableOf
 table-exact f o shape p =
-    exact-iff (given-exact 6 0 (table-decides (length f) shape (u32At o f p) (u32At o f (p + 4))) (answer-exact _))
+    exact-iff (given-exact out-of-bounds (table-decides (length f) shape (u32At o f p) (u32At o f (p + 4))) (answer-exact _))
     (λ t h. subst (TableAt f o shape p) (h .1) (record { count = refl; offset = refl; rule = h .0 }))
     (λ t h. let same : record { count = u32At o f p; offset = u32At o f (p + 4) } ≡ t = λ i. record { count = h .count i; offset = h .offset i } in
     (subst (TableRule (length f) shape) (sym same) (h .rule), same))
@@ -139,7 +140,7 @@ record SectionAt (f : List ℕ) (o : Endian) (d : Section) : Type 0 where
 section-exact : (f : List ℕ) (o : Endian) → Exact (sectionAt f o) (SectionAt f o)
 unfolding sectionAt sectionOf
 section-exact f o =
-    exact-iff (given-exact 6 0 (at-most 112 (u32At o f 108)) (given-exact 6 0 (at-most (u32At o f 108 + u32At o f 104) (length f)) (answer-exact _)))
+    exact-iff (given-exact out-of-bounds (at-most 112 (u32At o f 108)) (given-exact out-of-bounds (at-most (u32At o f 108 + u32At o f 104) (length f)) (answer-exact _)))
     (λ d h. subst (SectionAt f o) (h .1 .1) (record { after-header = h .0; inside = h .1 .0; start = refl; end = refl }))
     (λ d h. (h .after-header, (h .inside, λ i. record { start = h .start i; end = h .end i })))
 
@@ -171,8 +172,8 @@ record Staged (f : List ℕ) (h : Header) : Type 0 where
 header-staged : (f : List ℕ) → Exact (headerAt f) (λ (h : Header). (112 ≤ length f) × ((length f ≤ 67108864) × (Four f 0 0x64 0x65 0x78 0x0a × ((0 < versionAt f) × Staged f h))))
 unfolding headerAt versionedAt bodyAt bodyOf
 header-staged f =
-    given-exact 1 0 (at-most 112 (length f)) (given-exact 2 0 (at-most (length f) 67108864) (given-exact 3 0 (four-decides f 0 0x64 0x65 0x78 0x0a) (given-exact 3 0 (below 0 (versionAt f))
-    (exact-iff (bind-exact _ _ (order-exact f) (λ o. given-exact 5 0 (equal (u32At o f 36) 112) (given-exact 5 0 (equal (u32At o f 32) (length f)) (tables-exact f (versionAt f) o))))
+    given-exact file-too-short (at-most 112 (length f)) (given-exact file-too-long (at-most (length f) 67108864) (given-exact wrong-magic (four-decides f 0 0x64 0x65 0x78 0x0a) (given-exact wrong-magic (below 0 (versionAt f))
+    (exact-iff (bind-exact _ _ (order-exact f) (λ o. given-exact wrong-sizes (equal (u32At o f 36) 112) (given-exact wrong-sizes (equal (u32At o f 32) (length f)) (tables-exact f (versionAt f) o))))
     (λ h p. record { o = p .0; tag = p .1 .0; header-size = p .1 .1 .0; file-size = p .1 .1 .1 .0; tables = p .1 .1 .1 .1 })
     (λ h p. (p .o, (p .tag, (p .header-size, (p .file-size, p .tables)))))))))
 

@@ -13,6 +13,7 @@ use native.Mathlib.Omega.{arith}
 use native.Mathlib.Nat.{mul-le-mul-left, mul-le-mul-right, le-trans}
 use mir.Syntax.{w32, w64}
 use mir.Val.{Fits}
+use Rattle.refusal.specs.Refusals.{wrong-magic}
 use Rattle.refusal.specs.Outcome.{Outcome, refused, _>>=_}
 use Rattle.refusal.proofs.Laws.{said, tests, calls, passes, fails}
 use Rattle.word.specs.Words.{u32At}
@@ -27,7 +28,7 @@ use Rattle.header.specs.declared.TableAnswer.{TableAnswer}
 use Rattle.header.specs.declared.ThreeAnswer.{ThreeAnswer}
 use Rattle.header.specs.declared.SectionAnswer.{SectionAnswer}
 use Rattle.header.specs.declared.HeaderAnswer.{HeaderAnswer}
-use Rattle.header.specs.Header.{fourOf, four, versionAt, tableAllowed, tableOf, tableAt, sectionOf, sectionAt, joined, tablesAt, bodyOf, bodyAt, orderAt, versionedAt, section}
+use Rattle.header.specs.Header.{fourOf, four, versionAt, tableAllowed, tableOf, tableAt, sectionOf, sectionAt, joined, tablesAt, bodyOf, bodyAt, orderAt, versionedAt, up-to-end}
 use Rattle.header.specs.Answers.{order-outcome, table-outcome, three-outcome, section-outcome, header-outcome}
 
 -- ---- four bytes
@@ -107,9 +108,9 @@ module _ (f : List ℕ) (o : Endian) where
 module _ (f : List ℕ) {v : ℕ} (e : v ≡ versionAt f) where
   pub version-known : {y : Outcome Header} → 0 < v → y ≡ (orderAt f >>= bodyAt f v) → y ≡ versionedAt f
   unfolding versionedAt
-  version-known p h = rw (← e) (passes 3 0 (lt-ltb 0 v p) h)
+  version-known p h = rw (← e) (passes wrong-magic (lt-ltb 0 v p) h)
 
-  pub version-unknown : v ≤ 0 → refused (record { number = 3; place = 0 }) ≡ versionedAt f
+  pub version-unknown : v ≤ 0 → refused wrong-magic ≡ versionedAt f
   unfolding versionedAt
   version-unknown p = rw (← e) (fails _ (le-ltb 0 v p))
 
@@ -130,12 +131,12 @@ pub on-header : {B : Type 0} {x c : HeaderAnswer} {o : Outcome Header} {y : Outc
 on-header = said header-outcome
 
 -- ---- the section of a file
-pub section-short : (f : List ℕ) (h : Header) → length f < h .end → f ≡ section f h
-unfolding section
+pub section-short : (f : List ℕ) (h : Header) → length f < h .end → f ≡ up-to-end f h
+unfolding up-to-end
 section-short f h p = sym (take-all (h .end) f (omega arith))
 
-pub section-whole : (f : List ℕ) (h : Header) → take (h .end - 0) (drop 0 f) ≡ section f h
-unfolding section
+pub section-whole : (f : List ℕ) (h : Header) → take (h .end - 0) (drop 0 f) ≡ up-to-end f h
+unfolding up-to-end
 section-whole f h = let e : h .end - 0 ≡ h .end = omega arith in ap (λ (n : ℕ). take n f) e
 
 pub ruleset four-laws = (first-differs, second-differs, third-differs, by-fourth, four-by, calls, needs)

@@ -4,6 +4,7 @@ use mathlib.Core.Bool.{Bool, cond, _&&_}
 use mathlib.Core.List.{List}
 use lib.ListN.{length, getD, take}
 use lib.Dec.{ltb, leb, eqb}
+use Rattle.refusal.specs.Refusals.{file-too-long, file-too-short, out-of-bounds, wrong-magic, wrong-sizes, wrong-tag}
 use Rattle.refusal.specs.Outcome.{Outcome, answer, _>>=_, given}
 use Rattle.word.specs.Words.{u32At}
 use Rattle.word.specs.declared.Endian.{Endian}
@@ -35,7 +36,7 @@ versionAt f =
 unfoldable pub orderAt : List ℕ → Outcome Endian
 orderAt f =
     cond (four f 40 0x78 0x56 0x34 0x12) (answer Little)
-    (given (four f 40 0x12 0x34 0x56 0x78) 4 0 (answer Big))
+    (given (four f 40 0x12 0x34 0x56 0x78) wrong-tag (answer Big))
 
 -- "Count 0 needs offset 0. Otherwise the offset is at least 112, a multiple of 4, and the table ends within the file."
 unfoldable pub tableAllowed : ℕ → Shape → ℕ → ℕ → Bool
@@ -44,7 +45,7 @@ tableAllowed len shape count offset =
     (leb 112 offset && (eqb (offset % 4) 0 && (leb (offset + shape .width * count) len && leb count (shape .most))))
 
 unfoldable pub tableOf : ℕ → Shape → ℕ → ℕ → Outcome Table
-tableOf len shape count offset = given (tableAllowed len shape count offset) 6 0 (answer (record { count = count; offset = offset }))
+tableOf len shape count offset = given (tableAllowed len shape count offset) out-of-bounds (answer (record { count = count; offset = offset }))
 
 unfoldable pub tableAt : List ℕ → Endian → Shape → ℕ → Outcome Table
 tableAt f o shape p = tableOf (length f) shape (u32At o f p) (u32At o f (p + 4))
@@ -78,8 +79,8 @@ classes-shape = record { width = 32; most = 4294967295 }
 -- "The data section starts at 112 or later and ends within the file."
 unfoldable pub sectionOf : ℕ → ℕ → ℕ → Outcome Section
 sectionOf len start size =
-    given (leb 112 start) 6 0
-    (given (leb (start + size) len) 6 0
+    given (leb 112 start) out-of-bounds
+    (given (leb (start + size) len) out-of-bounds
     (answer (record { start = start; end = start + size })))
 
 unfoldable pub sectionAt : List ℕ → Endian → Outcome Section
@@ -116,37 +117,41 @@ tablesAt f version o = do
 -- "header size not 112, or file size not the buffer's length"
 unfoldable pub bodyOf : ℕ → ℕ → ℕ → Outcome Header → Outcome Header
 bodyOf len header-size file-size rest =
-    given (eqb header-size 112) 5 0
-    (given (eqb file-size len) 5 0
+    given (eqb header-size 112) wrong-sizes
+    (given (eqb file-size len) wrong-sizes
     rest)
 
 unfoldable pub bodyAt : List ℕ → ℕ → Endian → Outcome Header
 bodyAt f version o = bodyOf (length f) (u32At o f 36) (u32At o f 32) (tablesAt f version o)
 
 unfoldable pub versionedAt : List ℕ → Outcome Header
-versionedAt f = given (ltb 0 (versionAt f)) 3 0 (orderAt f >>= bodyAt f (versionAt f))
+versionedAt f = given (ltb 0 (versionAt f)) wrong-magic (orderAt f >>= bodyAt f (versionAt f))
 
 -- "under 112 bytes"; "over 67,108,864 bytes"; "first four bytes not 64 65 78 0a"
 unfoldable pub headerAt : List ℕ → Outcome Header
 headerAt f =
-    given (leb 112 (length f)) 1 0
-    (given (leb (length f) 67108864) 2 0
-    (given (four f 0 0x64 0x65 0x78 0x0a) 3 0
+    given (leb 112 (length f)) file-too-short
+    (given (leb (length f) 67108864) file-too-long
+    (given (four f 0 0x64 0x65 0x78 0x0a) wrong-magic
     (versionedAt f)))
 
 -- the file up to the data section's end: what data items are read from
-unfoldable pub section : List ℕ → Header → List ℕ
-section f h = take (h .end) f
+unfoldable pub up-to-end : List ℕ → Header → List ℕ
+up-to-end f header = take (header .end) f
 
 -- what items are read against in a file with this header and so many method handles
 abbrev pub frame-of : Header → ℕ → Frame
-frame-of h handles = record {
-  order = h .order;
-  start = h .start;
-  strings = h .strings .count;
-  types = h .types .count;
-  protos = h .protos .count;
-  fields = h .fields .count;
-  methods = h .methods .count;
+frame-of header handles = record {
+  order = header .order;
+  start = header .start;
+  strings = header .strings .count;
+  types = header .types .count;
+  protos = header .protos .count;
+  fields = header .fields .count;
+  methods = header .methods .count;
   handles = handles;
 }
+
+-- the same where handles play no part: records, lists, class data, code and debug information hold no index of a handle
+abbrev pub plain-frame : Header → Frame
+plain-frame header = frame-of header 0

@@ -44,23 +44,23 @@ pub record TableAt (f : List ℕ) (o : Endian) (shape : Shape) (p : ℕ) (t : Ta
   pub offset : u32At o f (p + 4) ≡ t .offset
   pub rule : TableRule (length f) shape t
 
-pub record HeaderRule (f : List ℕ) (h : Header) : Type 0 where
+pub record HeaderRule (f : List ℕ) (header : Header) : Type 0 where
   pub long : 112 ≤ length f
   pub short : length f ≤ 67108864
   pub magic : Four f 0 0x64 0x65 0x78 0x0a
-  pub version : VersionRule f (h .version)
-  pub tag : Tagged f (h .order)
-  pub header-size : u32At (h .order) f 36 ≡ 112
-  pub file-size : u32At (h .order) f 32 ≡ length f
-  pub checksum : u32At (h .order) f 8 ≡ h .checksum
-  pub map : u32At (h .order) f 52 ≡ h .map
-  pub strings : TableAt f (h .order) strings-shape 56 (h .strings)
-  pub types : TableAt f (h .order) types-shape 64 (h .types)
-  pub protos : TableAt f (h .order) protos-shape 72 (h .protos)
-  pub fields : TableAt f (h .order) fields-shape 80 (h .fields)
-  pub methods : TableAt f (h .order) methods-shape 88 (h .methods)
-  pub classes : TableAt f (h .order) classes-shape 96 (h .classes)
-  pub start : u32At (h .order) f 108 ≡ h .start
-  pub end : u32At (h .order) f 108 + u32At (h .order) f 104 ≡ h .end
-  pub section-after : 112 ≤ h .start
-  pub section-inside : h .end ≤ length f
+  pub version : VersionRule f (header .version)
+  pub tag : Tagged f (header .order)
+  pub header-size : u32At (header .order) f 36 ≡ 112
+  pub file-size : u32At (header .order) f 32 ≡ length f
+  pub checksum : u32At (header .order) f 8 ≡ header .checksum
+  pub map : u32At (header .order) f 52 ≡ header .map
+  pub strings : TableAt f (header .order) strings-shape 56 (header .strings)
+  pub types : TableAt f (header .order) types-shape 64 (header .types)
+  pub protos : TableAt f (header .order) protos-shape 72 (header .protos)
+  pub fields : TableAt f (header .order) fields-shape 80 (header .fields)
+  pub methods : TableAt f (header .order) methods-shape 88 (header .methods)
+  pub classes : TableAt f (header .order) classes-shape 96 (header .classes)
+  pub start : u32At (header .order) f 108 ≡ header .start
+  pub end : u32At (header .order) f 108 + u32At (header .order) f 104 ≡ header .end
+  pub section-after : 112 ≤ header .start
+  pub section-inside : header .end ≤ length f

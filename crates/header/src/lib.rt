@@ -3,7 +3,7 @@ use frame::Frame;
 use refusal::Refusal;
 use word::Endian;
 ghost use mathlib.Core.Path.{_≡_};
-ghost use Rattle.header.specs.Header.{fourOf, four, versionAt, orderAt, tableAllowed, tableAt, threeAt, sectionAt, joined, sectionedAt, tablesAt, bodyAt, versionedAt, headerAt, section, frame-of};
+ghost use Rattle.header.specs.Header.{fourOf, four, versionAt, orderAt, tableAllowed, tableAt, threeAt, sectionAt, joined, sectionedAt, tablesAt, bodyAt, versionedAt, headerAt, up-to-end, frame-of};
 ghost use Rattle.header.specs.Answers.{order-outcome, table-outcome, three-outcome, section-outcome, header-outcome};
 
 // A table: how many records, and where the first one is.
@@ -367,10 +367,10 @@ fn versioned(f: &[u8]) -> HeaderAnswer
 }
 
 // The file up to the data section's end: what data items are read from.
-pub fn section_of(f: &[u8], h: Header) -> &[u8]
-    ensures { λ r. ⌜ now r ≡ section (now (f .entry)) h ⌝ }
+pub fn up_to_end(f: &[u8], header: Header) -> &[u8]
+    ensures { λ r. ⌜ now r ≡ up-to-end (now (f .entry)) header ⌝ }
 {
-    let end = h.end;
+    let end = header.end;
     if f.len() < end {
         return f;
     }
@@ -378,18 +378,18 @@ pub fn section_of(f: &[u8], h: Header) -> &[u8]
 }
 
 // What items are read against in a file with this header and so many method handles.
-pub fn frame_of(h: Header, handles: u32) -> Frame
-    ensures { λ r. ⌜ r ≡ frame-of h handles ⌝ }
+pub fn frame_of(header: Header, handles: u32) -> Frame
+    ensures { λ r. ⌜ r ≡ frame-of header handles ⌝ }
 {
-    let order = h.order;
-    let strings = h.strings;
-    let types = h.types;
-    let protos = h.protos;
-    let fields = h.fields;
-    let methods = h.methods;
+    let order = header.order;
+    let strings = header.strings;
+    let types = header.types;
+    let protos = header.protos;
+    let fields = header.fields;
+    let methods = header.methods;
     Frame {
         order,
-        start: h.start,
+        start: header.start,
         strings: strings.count,
         types: types.count,
         protos: protos.count,

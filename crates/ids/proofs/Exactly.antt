@@ -7,6 +7,7 @@ use mathlib.Core.Bool.{true}
 use mathlib.Core.List.{List}
 use lib.Dec.{ltb, leb}
 use native.Mathlib.Omega.{arith}
+use Rattle.refusal.specs.Refusals.{out-of-order, unknown-kind, wrong-index, wrong-offset}
 use Rattle.refusal.specs.Exact.{Exact, At, Strict}
 use Rattle.refusal.proofs.Exact.{answer-exact, given-exact, either-exact, exact-iff, below, at-most, or-not}
 use Rattle.refusal.proofs.Each.{in-turn-exact, rising-apart}
@@ -22,14 +23,14 @@ module _ (f : List ℕ) (r : Frame) (offset : ℕ) where
   pub type-exact : (n : ℕ) → Exact (typeAt f r offset n) (TypeRule f r offset n)
   unfolding typeAt typeOf
   type-exact n =
-      exact-iff (given-exact 11 (offset + 4 * n) (below (u32At (r .order) f (offset + 4 * n)) (r .strings)) (answer-exact _))
+      exact-iff (given-exact (wrong-index (offset + 4 * n)) (below (u32At (r .order) f (offset + 4 * n)) (r .strings)) (answer-exact _))
       (λ v h. record { stands = h .1; range = subst (λ (x : ℕ). x < r .strings) (h .1) (h .0) })
       (λ v h. (subst (λ (x : ℕ). x < r .strings) (sym (h .stands)) (h .range), h .stands))
 
   pub types-exact : (count : ℕ) → Exact (typesAt f r offset count) (TypeTableRule f r offset count)
   unfolding typesAt
   types-exact count =
-      exact-iff (in-turn-exact (TypeRule f r offset) _<_ (typeAt f r offset) ltb 15 (λ (n : ℕ). offset + 4 * n) type-exact below count)
+      exact-iff (in-turn-exact (TypeRule f r offset) _<_ (typeAt f r offset) ltb (λ (n : ℕ). out-of-order (offset + 4 * n)) type-exact below count)
       (λ l h. record { each = h .0; order = h .1 })
       (λ l h. (h .each, h .order))
 
@@ -45,7 +46,7 @@ module _ (f : List ℕ) (r : Frame) (offset : ℕ) where
   proto-exact end n =
       let p = offset + 12 * n in
       exact-iff
-      (given-exact 11 p (below (u32At (r .order) f p) (r .strings)) (given-exact 11 p (below (u32At (r .order) f (p + 4)) (r .types)) (given-exact 8 p (or-absent-decides (r .start) end true (u32At (r .order) f (p + 8))) (answer-exact _))))
+      (given-exact (wrong-index p) (below (u32At (r .order) f p) (r .strings)) (given-exact (wrong-index p) (below (u32At (r .order) f (p + 4)) (r .types)) (given-exact (wrong-offset p) (or-absent-decides (r .start) end true (u32At (r .order) f (p + 8))) (answer-exact _))))
       (λ x h. subst (ProtoRule f r end offset n) (h .1 .1 .1) (record { shorty = refl; returns = refl; parameters = refl; shorty-range = h .0; return-range = h .1 .0; place = h .1 .1 .0 }))
       (λ x h. (
         subst (λ (v : ℕ). v < r .strings) (sym (h .shorty)) (h .shorty-range),
@@ -60,7 +61,7 @@ module _ (f : List ℕ) (r : Frame) (offset : ℕ) where
   member-exact kinds n =
       let p = offset + 8 * n in
       exact-iff
-      (given-exact 11 p (below (u16At (r .order) f p) (r .types)) (given-exact 11 p (below (u16At (r .order) f (p + 2)) kinds) (given-exact 11 p (below (u32At (r .order) f (p + 4)) (r .strings)) (answer-exact _))))
+      (given-exact (wrong-index p) (below (u16At (r .order) f p) (r .types)) (given-exact (wrong-index p) (below (u16At (r .order) f (p + 2)) kinds) (given-exact (wrong-index p) (below (u32At (r .order) f (p + 4)) (r .strings)) (answer-exact _))))
       (λ x h. subst (MemberIdRule f r kinds offset n) (h .1 .1 .1) (record { class = refl; kind = refl; name = refl; class-range = h .0; kind-range = h .1 .0; name-range = h .1 .1 .0 }))
       (λ x h. (
         subst (λ (v : ℕ). v < r .types) (sym (h .class)) (h .class-range),
@@ -74,9 +75,9 @@ module _ (f : List ℕ) (r : Frame) (offset : ℕ) where
   unfolding handleAt handleOf
   handle-exact n =
       exact-iff
-      (given-exact 18 (offset + 8 * n) (at-most (u16At (r .order) f (offset + 8 * n)) 8) (either-exact (at-most (u16At (r .order) f (offset + 8 * n)) 3)
-      (given-exact 11 (offset + 8 * n) (below (u16At (r .order) f (offset + 8 * n + 4)) (r .fields)) (answer-exact _))
-      (given-exact 11 (offset + 8 * n) (below (u16At (r .order) f (offset + 8 * n + 4)) (r .methods)) (answer-exact _))))
+      (given-exact (unknown-kind (offset + 8 * n)) (at-most (u16At (r .order) f (offset + 8 * n)) 8) (either-exact (at-most (u16At (r .order) f (offset + 8 * n)) 3)
+      (given-exact (wrong-index (offset + 8 * n)) (below (u16At (r .order) f (offset + 8 * n + 4)) (r .fields)) (answer-exact _))
+      (given-exact (wrong-index (offset + 8 * n)) (below (u16At (r .order) f (offset + 8 * n + 4)) (r .methods)) (answer-exact _))))
       (λ x h. there-from x (h .0) (h .1))
       back
     where

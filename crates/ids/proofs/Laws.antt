@@ -6,6 +6,7 @@ use mathlib.Core.Bool.{Bool, true, false}
 use mathlib.Core.List.{List}
 use lib.Dec.{ltb}
 use borrow.Author.Needs.{needs}
+use Rattle.refusal.specs.Refusals.{wrong-index}
 use Rattle.refusal.specs.declared.Refusal.{Refusal}
 use Rattle.refusal.specs.declared.CheckAnswer.{CheckAnswer}
 use Rattle.refusal.specs.declared.CheckAnswer.the-variants as C
@@ -29,9 +30,9 @@ use Rattle.ids.specs.Answers.{index-outcome, proto-outcome, member-id-ou
 -- the rules of a field or a method, of which nothing is kept
 unfoldable pub judged : Frame → ℕ → ℕ → ℕ → ℕ → ℕ → Outcome Unit
 judged r kinds place class kind name =
-    given (ltb class (r .types)) 11 place
-    (given (ltb kind kinds) 11 place
-    (given (ltb name (r .strings)) 11 place
+    given (ltb class (r .types)) (wrong-index place)
+    (given (ltb kind kinds) (wrong-index place)
+    (given (ltb name (r .strings)) (wrong-index place)
     (answer tt)))
 
 module _ (r : Frame) (kinds place class kind name : ℕ) where
@@ -42,7 +43,7 @@ module _ (r : Frame) (kinds place class kind name : ℕ) where
   unfolding judged memberIdOf given _>>=_
   judged-is = go (ltb class (r .types)) (ltb kind kinds) (ltb name (r .strings))
     where
-      go : (a b c : Bool) → given a 11 place (given b 11 place (given c 11 place (answer tt))) ≡ (given a 11 place (given b 11 place (given c 11 place (answer made))) >>= accepted)
+      go : (a b c : Bool) → given a (wrong-index place) (given b (wrong-index place) (given c (wrong-index place) (answer tt))) ≡ (given a (wrong-index place) (given b (wrong-index place) (given c (wrong-index place) (answer made))) >>= accepted)
       go true true true = refl
       go true true false = refl
       go true false c = refl
@@ -53,7 +54,7 @@ module _ (r : Frame) (kinds place class kind name : ℕ) where
   unfolding memberIdOf given _>>=_
   obeyed = go (ltb class (r .types)) (ltb kind kinds) (ltb name (r .strings))
     where
-      go : (a b c : Bool) → answer tt ≡ (given a 11 place (given b 11 place (given c 11 place (answer made))) >>= accepted) → answer made ≡ given a 11 place (given b 11 place (given c 11 place (answer made)))
+      go : (a b c : Bool) → answer tt ≡ (given a (wrong-index place) (given b (wrong-index place) (given c (wrong-index place) (answer made))) >>= accepted) → answer made ≡ given a (wrong-index place) (given b (wrong-index place) (given c (wrong-index place) (answer made)))
       go true true true e = refl
       go true true false e = absurd (never (sym e))
       go true false c e = absurd (never (sym e))

@@ -48,34 +48,34 @@ pub enum HandleAnswer {
 }
 
 // A type: its string.
-pub fn type_at(f: &[u8], r: Frame, offset: u32, n: u32) -> IndexAnswer
-    ensures { λ a. ⌜ index-outcome a ≡ typeAt (now (f .entry)) r offset n ⌝ }
+pub fn type_at(f: &[u8], frame: Frame, offset: u32, n: u32) -> IndexAnswer
+    ensures { λ a. ⌜ index-outcome a ≡ typeAt (now (f .entry)) frame offset n ⌝ }
 {
-    let order = r.order;
+    let order = frame.order;
     let place = offset as usize + 4 * n as usize;
     let string = word::u32_at(f, place, order);
-    if string < r.strings {
+    if string < frame.strings {
         return IndexAnswer::Got(string);
     }
     IndexAnswer::Refused(Refusal { number: 11, place })
 }
 
 // A proto's own rules: shorty, return type, parameters.
-pub fn proto_at(f: &[u8], r: Frame, end: usize, offset: u32, n: u32) -> ProtoAnswer
-    ensures { λ a. ⌜ proto-outcome a ≡ protoAt (now (f .entry)) r end offset n ⌝ }
+pub fn proto_at(f: &[u8], frame: Frame, end: usize, offset: u32, n: u32) -> ProtoAnswer
+    ensures { λ a. ⌜ proto-outcome a ≡ protoAt (now (f .entry)) frame end offset n ⌝ }
 {
-    let order = r.order;
+    let order = frame.order;
     let place = offset as usize + 12 * n as usize;
     let shorty = word::u32_at(f, place, order);
     let return_type = word::u32_at(f, place + 4, order);
     let parameters = word::u32_at(f, place + 8, order);
-    if r.strings <= shorty {
+    if frame.strings <= shorty {
         return ProtoAnswer::Refused(Refusal { number: 11, place });
     }
-    if r.types <= return_type {
+    if frame.types <= return_type {
         return ProtoAnswer::Refused(Refusal { number: 11, place });
     }
-    if frame::is_allowed_or_absent(r.start, end, true, parameters as usize) {
+    if frame::is_allowed_or_absent(frame.start, end, true, parameters as usize) {
         return ProtoAnswer::Got(Proto {
             shorty,
             return_type,
@@ -86,33 +86,33 @@ pub fn proto_at(f: &[u8], r: Frame, end: usize, offset: u32, n: u32) -> ProtoAns
 }
 
 // A field's or a method's own rules: `kinds` is how many types or protos there are. Nothing is handed out, so that a loop over them copies nothing.
-pub fn check_member(f: &[u8], r: Frame, kinds: u32, offset: u32, n: u32) -> CheckAnswer
-    ensures { λ a. ⌜ checked-outcome a ≡ memberIdChecked (now (f .entry)) r kinds offset n ⌝ }
+pub fn check_member(f: &[u8], frame: Frame, kinds: u32, offset: u32, n: u32) -> CheckAnswer
+    ensures { λ a. ⌜ checked-outcome a ≡ memberIdChecked (now (f .entry)) frame kinds offset n ⌝ }
 {
-    let order = r.order;
+    let order = frame.order;
     let place = offset as usize + 8 * n as usize;
     let class = word::u16_at(f, place, order) as u32;
     let kind = word::u16_at(f, place + 2, order) as u32;
     let name = word::u32_at(f, place + 4, order);
-    if r.types <= class {
+    if frame.types <= class {
         return CheckAnswer::Refused(Refusal { number: 11, place });
     }
     if kinds <= kind {
         return CheckAnswer::Refused(Refusal { number: 11, place });
     }
-    if r.strings <= name {
+    if frame.strings <= name {
         return CheckAnswer::Refused(Refusal { number: 11, place });
     }
     CheckAnswer::Accepted
 }
 
 // A field or a method, where it obeys them.
-pub fn member_at(f: &[u8], r: Frame, kinds: u32, offset: u32, n: u32) -> MemberIdAnswer
-    ensures { λ a. ⌜ member-id-outcome a ≡ memberIdAt (now (f .entry)) r kinds offset n ⌝ }
+pub fn member_at(f: &[u8], frame: Frame, kinds: u32, offset: u32, n: u32) -> MemberIdAnswer
+    ensures { λ a. ⌜ member-id-outcome a ≡ memberIdAt (now (f .entry)) frame kinds offset n ⌝ }
 {
-    let order = r.order;
+    let order = frame.order;
     let place = offset as usize + 8 * n as usize;
-    match check_member(f, r, kinds, offset, n) {
+    match check_member(f, frame, kinds, offset, n) {
         CheckAnswer::Refused(a) => MemberIdAnswer::Refused(a),
         CheckAnswer::Accepted => MemberIdAnswer::Got(MemberId {
             class: word::u16_at(f, place, order) as u32,
@@ -123,10 +123,10 @@ pub fn member_at(f: &[u8], r: Frame, kinds: u32, offset: u32, n: u32) -> MemberI
 }
 
 // A method handle's own rules: its kind, then the field or the method.
-pub fn handle_at(f: &[u8], r: Frame, offset: u32, n: u32) -> HandleAnswer
-    ensures { λ a. ⌜ handle-outcome a ≡ handleAt (now (f .entry)) r offset n ⌝ }
+pub fn handle_at(f: &[u8], frame: Frame, offset: u32, n: u32) -> HandleAnswer
+    ensures { λ a. ⌜ handle-outcome a ≡ handleAt (now (f .entry)) frame offset n ⌝ }
 {
-    let order = r.order;
+    let order = frame.order;
     let place = offset as usize + 8 * n as usize;
     let kind = word::u16_at(f, place, order) as u32;
     let number = word::u16_at(f, place + 4, order) as u32;
@@ -134,12 +134,12 @@ pub fn handle_at(f: &[u8], r: Frame, offset: u32, n: u32) -> HandleAnswer
         return HandleAnswer::Refused(Refusal { number: 18, place });
     }
     if kind <= 3 {
-        if number < r.fields {
+        if number < frame.fields {
             return HandleAnswer::Got(Handle { kind, number });
         }
         return HandleAnswer::Refused(Refusal { number: 11, place });
     }
-    if number < r.methods {
+    if number < frame.methods {
         return HandleAnswer::Got(Handle { kind, number });
     }
     HandleAnswer::Refused(Refusal { number: 11, place })

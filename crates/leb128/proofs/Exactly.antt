@@ -8,6 +8,7 @@ use mathlib.Core.List.{List, [], _∷_}
 use lib.ListN.{length, getD}
 use lib.IntN.{ℤ}
 use native.Mathlib.Omega.{arith}
+use Rattle.refusal.specs.Refusals.{malformed-number, runs-past}
 use Rattle.refusal.specs.Rows.{Found}
 use Rattle.refusal.specs.Exact.{Exact, At, here, there}
 use Rattle.refusal.proofs.Exact.{never, same, answer-exact, given-exact, bind-exact, either-exact, exact-iff, below, at-most, one-of}
@@ -50,7 +51,7 @@ unfolding bytesAt Rule
 bytes-exact zero s item p = record { sound = λ r e. absurd (never e); complete = λ r h. absurd (let a = h .1 .some-byte in let b = h .1 .few in omega arith) }
 bytes-exact (suc n) s item p =
     exact-iff
-    (given-exact 9 item (below p (length s)) (either-exact (below (getD s p 0) 128) (answer-exact (record { item = getD s p 0 ∷ []; next = p + 1 }))
+    (given-exact (runs-past item) (below p (length s)) (either-exact (below (getD s p 0) 128) (answer-exact (record { item = getD s p 0 ∷ []; next = p + 1 }))
     (bind-exact (Rule n s (p + 1)) (λ (m r : Found (List ℕ) ℕ). record { item = getD s p 0 ∷ m .item; next = m .next } ≡ r) (bytes-exact n s item (p + 1)) (λ m. answer-exact _))))
     (λ r h. joined r (h .0) (h .1))
     (λ r h. parted (r .item) (r .next) (h .0) (h .1))
@@ -89,14 +90,14 @@ number-exact s item p = exact-iff (bytes-exact 5 s item p) (λ r h. record { sta
 pub uleb-exact : (s : List ℕ) (item p : ℕ) → Exact (ulebAt s item p) (Uleb s p)
 unfolding ulebAt
 uleb-exact s item p =
-    exact-iff (bind-exact _ _ (number-exact s item p) (λ n. given-exact 10 item (at-most (fifth (n .item)) 0x0f) (answer-exact _)))
+    exact-iff (bind-exact _ _ (number-exact s item p) (λ n. given-exact (malformed-number item) (at-most (fifth (n .item)) 0x0f) (answer-exact _)))
     (λ r h. subst (Uleb s p) (h .1 .1 .1) (record { bs = h .0 .item; bytes = h .1 .0; fifth-byte = h .1 .1 .0; value = refl }))
     (λ r h. (record { item = h .bs; next = r .next }, (h .bytes, (h .fifth-byte, λ i. record { item = h .value i; next = r .next }))))
 
 pub sleb-exact : (s : List ℕ) (item p : ℕ) → Exact (slebAt s item p) (Sleb s p)
 unfolding slebAt
 sleb-exact s item p =
-    exact-iff (bind-exact _ _ (number-exact s item p) (λ n. given-exact 10 item (one-of (at-most (fifth (n .item)) 0x07) (at-most 0x78 (fifth (n .item)))) (answer-exact _)))
+    exact-iff (bind-exact _ _ (number-exact s item p) (λ n. given-exact (malformed-number item) (one-of (at-most (fifth (n .item)) 0x07) (at-most 0x78 (fifth (n .item)))) (answer-exact _)))
     (λ r h. subst (Sleb s p) (h .1 .1 .1) (record { bs = h .0 .item; bytes = h .1 .0; fifth-byte = h .1 .1 .0; value = refl }))
     (λ r h. (record { item = h .bs; next = r .next }, (h .bytes, (h .fifth-byte, λ i. record { item = h .value i; next = r .next }))))
 

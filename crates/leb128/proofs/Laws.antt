@@ -16,6 +16,7 @@ use borrow.Author.Tests.{lt-ltb, le-ltb, le-leb, lt-leb}
 use mir.Syntax.{w32, w64}
 use mir.Val.{Fits, SFits, toZ, ofZ}
 use mir.ValLaws.{toZ-pos, toZ-ofZ}
+use Rattle.refusal.specs.Refusals.{malformed-number, runs-past}
 use Rattle.refusal.specs.declared.Refusal.{Refusal}
 use Rattle.refusal.specs.Outcome.{Outcome, answer, refused, _>>=_, given}
 use Rattle.refusal.specs.Rows.{Found, in-front}
@@ -37,7 +38,7 @@ use Rattle.leb128.proofs.Exactly.{number-exact, uleb-exact, sleb-exact,
 
 -- ---- the ways of `bytesAt` while a byte may follow
 module _ (s : List ℕ) (item p : ℕ) where
-  bytes-end : (left : ℕ) → 0 < left → length s ≤ p → bytesAt left s item p ≡ refused (record { number = 9; place = item })
+  bytes-end : (left : ℕ) → 0 < left → length s ≤ p → bytesAt left s item p ≡ refused (runs-past item)
   unfolding bytesAt given
   bytes-end zero l h = absurd (omega arith)
   bytes-end (suc left) l h = rw (le-ltb p (length s) h)
@@ -96,7 +97,7 @@ module _ {s : List ℕ} {item at p v m left : ℕ} (h : Head s item at p v m lef
   pub fits-scale : Fits w64 (m * 128)
   fits-scale = omega (arith, turn 0 (omega arith))
 
-  pub head-end : length s ≤ p → refused (record { number = 9; place = item }) ≡ weighedAt s item at
+  pub head-end : length s ≤ p → refused (runs-past item) ≡ weighedAt s item at
   unfolding weighedAt
   head-end q = sym (bind-refused weighing (h .same ∙ bind-refused _ (bytes-end s item p left l q)))
 
@@ -121,7 +122,7 @@ module _ {s : List ℕ} {item at p v m left : ℕ} (h : Head s item at p v m lef
     room = room-again left m l (h .room);
   }
 
-pub head-full : {s : List ℕ} {item at p v m left : ℕ} → Head s item at p v m left → left ≤ 0 → refused (record { number = 10; place = item }) ≡ weighedAt s item at
+pub head-full : {s : List ℕ} {item at p v m left : ℕ} → Head s item at p v m left → left ≤ 0 → refused (malformed-number item) ≡ weighedAt s item at
 unfolding weighedAt bytesAt
 head-full {s} {item} {at} {p} {v} {m} {left} h q =
     let none : left ≡ 0 = omega arith in
@@ -199,9 +200,9 @@ module _ (s : List ℕ) (item at : ℕ) where
           let b = behind e t in
           let w = b .weight-is in
           let low = b .fifth-is .low (omega arith) in
-          sym (bind-answer _ (b .read) ∙ sym (passes 10 item (le-leb (fifth (b .bs)) 0x0f low) (λ i. answer (record { item = sym w i; next = n }))))
+          sym (bind-answer _ (b .read) ∙ sym (passes (malformed-number item) (le-leb (fifth (b .bs)) 0x0f low) (λ i. answer (record { item = sym w i; next = n }))))
 
-      pub uleb-high : 2 ^ 32 ≤ v → refused (record { number = 10; place = item }) ≡ ulebAt s item at
+      pub uleb-high : 2 ^ 32 ≤ v → refused (malformed-number item) ≡ ulebAt s item at
       unfolding ulebAt
       uleb-high h =
           let b = behind e t in
@@ -212,9 +213,9 @@ module _ (s : List ℕ) (item at : ℕ) where
       -- the signed number: a test on the fifth byte, and what is answered
       sleb-in : (fifth (behind e t .bs) ≤ 0x07) ⊎ (0x78 ≤ fifth (behind e t .bs)) → answer (record { item = signed (behind e t .bs); next = n }) ≡ slebAt s item at
       unfolding slebAt
-      sleb-in h = sym (bind-answer _ (behind e t .read) ∙ sym (passes 10 item (one-of (at-most _ _) (at-most _ _) .complete h) refl))
+      sleb-in h = sym (bind-answer _ (behind e t .read) ∙ sym (passes (malformed-number item) (one-of (at-most _ _) (at-most _ _) .complete h) refl))
 
-      sleb-out : (0x07 < fifth (behind e t .bs)) × (fifth (behind e t .bs) < 0x78) → refused (record { number = 10; place = item }) ≡ slebAt s item at
+      sleb-out : (0x07 < fifth (behind e t .bs)) × (fifth (behind e t .bs) < 0x78) → refused (malformed-number item) ≡ slebAt s item at
       unfolding slebAt
       sleb-out h =
           sym (bind-answer _ (behind e t .read) ∙ sym (fails _ (λ i. lt-leb (fifth (behind e t .bs)) 0x07 (h .0) i || lt-leb 0x78 (fifth (behind e t .bs)) (h .1) i)))
@@ -238,7 +239,7 @@ module _ (s : List ℕ) (item at : ℕ) where
           let f = b .scale-is in
           ap (λ (z : ℤ). answer (record { item = z; next = n })) (toZ-pos w32 v q ∙ ap pos (sym w) ∙ sym (signed-plus (b .bs) (omega arith))) ∙ sleb-in (inl (b .fifth-is .plus-low (omega arith) (omega arith)))
 
-      pub sleb-over : 2 * v < m → 2 ^ 31 ≤ v → refused (record { number = 10; place = item }) ≡ slebAt s item at
+      pub sleb-over : 2 * v < m → 2 ^ 31 ≤ v → refused (malformed-number item) ≡ slebAt s item at
       sleb-over p q =
           let b = behind e t in
           let w = b .weight-is in
@@ -255,7 +256,7 @@ module _ (s : List ℕ) (item at : ℕ) where
           ap (λ (y : ℤ). answer (record { item = y; next = n })) (minus-back (m - v - 1) (omega arith) ∙ ap negsuc same ∙ sym (signed-minus (b .bs) (omega arith)))
           ∙ sleb-in (b .fifth-is .minus-low (omega arith) (omega arith))
 
-      pub sleb-under : m ≤ 2 * v → 2 ^ 31 < m - v → refused (record { number = 10; place = item }) ≡ slebAt s item at
+      pub sleb-under : m ≤ 2 * v → 2 ^ 31 < m - v → refused (malformed-number item) ≡ slebAt s item at
       sleb-under p q =
           let b = behind e t in
           let w = b .weight-is in
@@ -276,12 +277,12 @@ module _ (s : List ℕ) (item at : ℕ) (h : at < length s) where
   unfolding ulebAt
   uleb-one q =
       let w = weight-one (getD s at 0) q in
-      sym (bind-answer _ (bytes-last s item at 5 (omega arith) h q) ∙ sym (passes 10 item (le-leb 0 0x0f (omega arith)) (λ i. answer (record { item = sym w i; next = at + 1 }))))
+      sym (bind-answer _ (bytes-last s item at 5 (omega arith) h q) ∙ sym (passes (malformed-number item) (le-leb 0 0x0f (omega arith)) (λ i. answer (record { item = sym w i; next = at + 1 }))))
 
   sleb-byte : (z : ℤ) → getD s at 0 < 128 → z ≡ signed (getD s at 0 ∷ []) → answer (record { item = z; next = at + 1 }) ≡ slebAt s item at
   unfolding slebAt
   sleb-byte z q e =
-      sym (bind-answer _ (bytes-last s item at 5 (omega arith) h q) ∙ sym (passes 10 item (one-of (at-most 0 0x07) (at-most 0x78 0) .complete (inl (omega arith))) (λ i. answer (record { item = e i; next = at + 1 }))))
+      sym (bind-answer _ (bytes-last s item at 5 (omega arith) h q) ∙ sym (passes (malformed-number item) (one-of (at-most 0 0x07) (at-most 0x78 0) .complete (inl (omega arith))) (λ i. answer (record { item = e i; next = at + 1 }))))
 
   pub sleb-one : getD s at 0 < 64 → answer (record { item = toZ w32 (getD s at 0); next = at + 1 }) ≡ slebAt s item at
   sleb-one q =

@@ -6,14 +6,15 @@ use mathlib.Core.List.{List, [], _∷_}
 use lib.ListN.{length, getD}
 use lib.Dec.{ltb, leb}
 use lib.IntN.{ℤ, pos, negsuc}
+use Rattle.refusal.specs.Refusals.{malformed-number, runs-past}
 use Rattle.refusal.specs.Outcome.{Outcome, answer, refused, _>>=_, given}
 use Rattle.refusal.specs.Rows.{Found, in-front}
 
 -- the bytes of a number, up to the first below 128: "At most five bytes", "data ending earlier is 9"
 unfoldable pub bytesAt : ℕ → List ℕ → ℕ → ℕ → Outcome (Found (List ℕ) ℕ)
-bytesAt zero s item p = refused (record { number = 10; place = item })
+bytesAt zero s item p = refused (malformed-number item)
 bytesAt (suc most) s item p =
-    given (ltb p (length s)) 9 item
+    given (ltb p (length s)) (runs-past item)
     (cond (ltb (getD s p 0) 128)
     (answer (record { item = getD s p 0 ∷ []; next = p + 1 }))
     (bytesAt most s item (p + 1) >>= in-front (getD s p 0)))
@@ -35,7 +36,7 @@ fifth bs = getD bs 4 0
 unfoldable pub ulebAt : List ℕ → ℕ → ℕ → Outcome (Found ℕ ℕ)
 ulebAt s item p = do
   n ← bytesAt 5 s item p
-  given (leb (fifth (n .item)) 0x0f) 10 item (answer (record { item = weight (n .item); next = n .next }))
+  given (leb (fifth (n .item)) 0x0f) (malformed-number item) (answer (record { item = weight (n .item); next = n .next }))
 
 -- the weight, less the scale where the highest bit read is set
 unfoldable pub signed : List ℕ → ℤ
@@ -45,7 +46,7 @@ signed bs = cond (ltb (2 * weight bs) (scale bs)) (pos (weight bs)) (negsuc (sca
 unfoldable pub slebAt : List ℕ → ℕ → ℕ → Outcome (Found ℤ ℕ)
 slebAt s item p = do
   n ← bytesAt 5 s item p
-  given (leb (fifth (n .item)) 0x07 || leb 0x78 (fifth (n .item))) 10 item (answer (record { item = signed (n .item); next = n .next }))
+  given (leb (fifth (n .item)) 0x07 || leb 0x78 (fifth (n .item))) (malformed-number item) (answer (record { item = signed (n .item); next = n .next }))
 
 -- "A plus-one number is none when 0, otherwise one less."
 unfoldable pub less-one : ℕ → Option ℕ

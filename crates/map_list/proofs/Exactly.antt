@@ -8,6 +8,7 @@ use lib.ListN.{length, getD, set, length-set, getD-replicate}
 use lib.Seq.{getD-set-same, getD-set-other}
 use lib.Dec.{eqb, leb}
 use native.Mathlib.Omega.{arith}
+use Rattle.refusal.specs.Refusals.{runs-past, wrong-map, wrong-offset}
 use Rattle.refusal.specs.Outcome.{answer}
 use Rattle.refusal.specs.Rows.{Found, collect}
 use Rattle.refusal.specs.Exact.{Exact, Decides, Row, empty, first, At, here, there, Rising, Strict}
@@ -17,7 +18,7 @@ use Rattle.refusal.proofs.Each.{at-below, at-same, rising-one, rising-cons, ris
 use Rattle.word.specs.Words.{u32At}
 use Rattle.header.specs.declared.Header.{Header}
 use Rattle.header.specs.declared.Table.{Table}
-use Rattle.header.specs.Header.{section}
+use Rattle.header.specs.Header.{up-to-end}
 use Rattle.frame.proofs.Laws.{allowed-decides}
 use Rattle.map_list.specs.declared.MapEntry.{MapEntry}
 use Rattle.map_list.specs.declared.MapJudge.{MapJudge}
@@ -86,8 +87,8 @@ unfolding stepAt judged nextAllowed
 step-exact s j t =
     let e = entryAt (j .order) s (t .place) in
     exact-iff
-    (given-exact 16 (j .at) (below (mapCodeNumber (e .kind)) 21)
-    (given-exact 16 (j .at) (both (at-most (t .floor) (e .offset)) (both (equal (getD (t .seen) (mapCodeNumber (e .kind)) 0) 0) (own-decides (j .version) (j .length) e)))
+    (given-exact (wrong-map (j .at)) (below (mapCodeNumber (e .kind)) 21)
+    (given-exact (wrong-map (j .at)) (both (at-most (t .floor) (e .offset)) (both (equal (getD (t .seen) (mapCodeNumber (e .kind)) 0) 0) (own-decides (j .version) (j .length) e)))
     (answer-exact (record { item = e; next = after-entry t e }))))
     (λ r h. subst (λ (x : Found MapEntry Scan). Judged s j t (x .item) (x .next)) (h .1 .1) (record { stands = refl; known = h .0; high = h .1 .0 .0; fresh = h .1 .0 .1 .0; own = h .1 .0 .1 .1; next = refl }))
     (λ r h. back (r .item) (r .next) h)
@@ -263,7 +264,7 @@ module _ (s : List ℕ) (j : MapJudge) where
   unfolding listAt listOf
   list-exact =
       exact-iff
-      (given-exact 9 (j .at) (at-most (j .at + 4) (length s)) (given-exact 9 (j .at) (at-most (j .at + 4 + 12 * u32At (j .order) s (j .at)) (length s))
+      (given-exact (runs-past (j .at)) (at-most (j .at + 4) (length s)) (given-exact (runs-past (j .at)) (at-most (j .at + 4 + 12 * u32At (j .order) s (j .at)) (length s))
       (bind-exact _ _ (collect-exact (stepAt s j) (Judged s j) (step-exact s j) (u32At (j .order) s (j .at)) (begin (j .at + 4))) (λ r. answer-exact (record { entries = r .item; handles = r .next .handles })))))
       (λ m h. subst (MapEntriesRule s j) (h .1 .1 .1 .1) (there-from (h .1 .1 .0 .item) (h .1 .1 .0 .next) (h .1 .0) (h .1 .1 .1 .0)))
       (λ m r.
@@ -286,7 +287,7 @@ counted s j count from r e = row-fits s j refl (collect-exact (stepAt s j) (Judg
 pub map-exact : (f : List ℕ) (h : Header) → Exact (mapAt f h) (MapRule f h)
 unfolding mapAt
 map-exact f h =
-    exact-iff (given-exact 8 0 (allowed-decides (h .start) (length (section f h)) true (h .map)) (list-exact (section f h) (judge-of f h)))
+    exact-iff (given-exact (wrong-offset 0) (allowed-decides (h .start) (length (up-to-end f h)) true (h .map)) (list-exact (up-to-end f h) (judge-of f h)))
     (λ m r. record { offset = r .0; list = r .1 })
     (λ m r. (r .offset, r .list))
 

@@ -9,6 +9,7 @@ use lib.Dec.{ltb, leb}
 use borrow.Author.Needs.{needs}
 use borrow.Author.Tests.{lt-ltb, le-ltb, le-leb, lt-leb, eq-eqb, ne-eqb}
 use native.Mathlib.Omega.{arith}
+use Rattle.refusal.specs.Refusals.{runs-past, wrong-map, wrong-offset}
 use Rattle.refusal.specs.Outcome.{Outcome, answer, refused, _>>=_}
 use Rattle.refusal.specs.Rows.{Found, past, collect}
 use Rattle.refusal.proofs.Laws.{said, calls, passes, fails, bind-answer, bind-refused}
@@ -18,7 +19,7 @@ use Rattle.word.specs.declared.Endian.{Endian}
 use Rattle.word.proofs.Laws.{u16-past, u32-past}
 use Rattle.header.specs.declared.Header.{Header}
 use Rattle.header.specs.declared.Table.{Table}
-use Rattle.header.specs.Header.{section}
+use Rattle.header.specs.Header.{up-to-end}
 use Rattle.frame.specs.Offsets.{allowed}
 use Rattle.map_list.specs.declared.MapEntry.{MapEntry}
 use Rattle.map_list.specs.declared.MapJudge.{MapJudge}
@@ -97,11 +98,11 @@ module _ (o : Endian) (s : List ℕ) (p : ℕ) where
   pub entry-by : {k z d : ℕ} → k ≡ u16At o s p → z ≡ u32At o s (p + 4) → d ≡ u32At o s (p + 8) → record { kind = k; size = z; offset = d } ≡ entryAt o s p
   entry-by a b c = λ i. record { kind = a i; size = b i; offset = c i }
 
-pub number-past : (f : List ℕ) (h : Header) (k : ℕ) {s : List ℕ} → s ≡ section f h → length s ≤ h .map → record { kind = 0; size = 0; offset = 0 } ≡ entryNumber f h k
+pub number-past : (f : List ℕ) (h : Header) (k : ℕ) {s : List ℕ} → s ≡ up-to-end f h → length s ≤ h .map → record { kind = 0; size = 0; offset = 0 } ≡ entryNumber f h k
 unfolding entryNumber
 number-past f h k e p = rw (← e) (entry-past (h .order) _ (h .map + 4 + 12 * k) (omega arith))
 
-pub number-there : (f : List ℕ) (h : Header) (k : ℕ) {s : List ℕ} {r : MapEntry} → s ≡ section f h → r ≡ entryAt (h .order) s (h .map + 4 + 12 * k) → r ≡ entryNumber f h k
+pub number-there : (f : List ℕ) (h : Header) (k : ℕ) {s : List ℕ} {r : MapEntry} → s ≡ up-to-end f h → r ≡ entryAt (h .order) s (h .map + 4 + 12 * k) → r ≡ entryNumber f h k
 unfolding entryNumber
 number-there f h k e p = rw (← e) p
 
@@ -118,11 +119,11 @@ module _ {s : List ℕ} {j : MapJudge} {from count left place floor : ℕ} {seen
   abbrev here-at : Scan
   here-at = record { place = place; floor = floor; seen = seen; handles = handles }
 
-  stops : {B : Type 0} (k : Found (List MapEntry) Scan → Outcome B) → refused (record { number = 16; place = j .at }) ≡ judged j here-at e → refused (record { number = 16; place = j .at }) ≡ (collect count (stepAt s j) (begin from) >>= k)
+  stops : {B : Type 0} (k : Found (List MapEntry) Scan → Outcome B) → refused (wrong-map (j .at)) ≡ judged j here-at e → refused (wrong-map (j .at)) ≡ (collect count (stepAt s j) (begin from) >>= k)
   unfolding stepAt
   stops k q = sym (bind-refused k (sym (gather-stop (h .gather) l (sym (bind-refused past (ap (judged j here-at) (sym read) ∙ sym q))))))
 
-  pub scanning-unknown : 21 ≤ number → refused (record { number = 16; place = j .at }) ≡ scanAt s j from count
+  pub scanning-unknown : 21 ≤ number → refused (wrong-map (j .at)) ≡ scanAt s j from count
   unfolding scanAt judged
   scanning-unknown p = stops _ (fails _ (le-ltb (mapCodeNumber (e .kind)) 21 (let z = is in omega arith)))
 
@@ -133,9 +134,9 @@ module _ {s : List ℕ} {j : MapJudge} {from count left place floor : ℕ} {seen
     in-table : ltb (mapCodeNumber (e .kind)) 21 ≡ true
     in-table = lt-ltb (mapCodeNumber (e .kind)) 21 (let z = is in omega arith)
 
-    pub scanning-fail : b ≡ false → refused (record { number = 16; place = j .at }) ≡ scanAt s j from count
+    pub scanning-fail : b ≡ false → refused (wrong-map (j .at)) ≡ scanAt s j from count
     unfolding scanAt judged
-    scanning-fail q = stops _ (passes 16 (j .at) in-table (fails _ (sym there ∙ q)))
+    scanning-fail q = stops _ (passes (wrong-map (j .at)) in-table (fails _ (sym there ∙ q)))
 
     pub scanning-next : {hs : Table} → b ≡ true → hs ≡ handlesOf e handles
         → Scanning s j from count (left - 1) (place + 12) (e .offset + 1) (set seen number 1) hs
@@ -143,7 +144,7 @@ module _ {s : List ℕ} {j : MapJudge} {from count left place floor : ℕ} {seen
     scanning-next {hs} q g =
         let to : Found MapEntry Scan = record { item = e; next = record { place = place + 12; floor = e .offset + 1; seen = set seen number 1; handles = hs } } in
         let good : answer to ≡ judged j here-at e =
-        passes 16 (j .at) in-table (passes 16 (j .at) (sym there ∙ q)
+        passes (wrong-map (j .at)) in-table (passes (wrong-map (j .at)) (sym there ∙ q)
         (λ i. answer (record { item = e; next = record { place = place + 12; floor = e .offset + 1; seen = set seen (is i) 1; handles = g i } }))) in
         record { gather = gather-next (h .gather) l (sym (bind-answer past (ap (judged j here-at) (sym read) ∙ sym good))); room = let z = h .room in omega arith }
 
@@ -155,20 +156,20 @@ scanning-done h l =
 
 -- ---- the stages of the list
 module _ (s : List ℕ) (j : MapJudge) where
-  pub list-low : length s < j .at → refused (record { number = 9; place = j .at }) ≡ keptListAt s j
+  pub list-low : length s < j .at → refused (runs-past (j .at)) ≡ keptListAt s j
   unfolding keptListAt listAt
   list-low h = sym (bind-refused kept (sym (fails _ (lt-leb (j .at + 4) (length s) (omega arith)))))
 
-  pub list-short : j .at ≤ length s → length s - j .at < 4 → refused (record { number = 9; place = j .at }) ≡ keptListAt s j
+  pub list-short : j .at ≤ length s → length s - j .at < 4 → refused (runs-past (j .at)) ≡ keptListAt s j
   unfolding keptListAt listAt
   list-short p h = sym (bind-refused kept (sym (fails _ (lt-leb (j .at + 4) (length s) (omega arith)))))
 
   module _ {count : ℕ} (read : count ≡ u32At (j .order) s (j .at)) (p : j .at ≤ length s) (q : 4 ≤ length s - j .at) where
     past-size : listAt s j ≡ listOf s j count
     unfolding listAt
-    past-size = rw (← read) (sym (passes 9 (j .at) (le-leb (j .at + 4) (length s) (omega arith)) refl))
+    past-size = rw (← read) (sym (passes (runs-past (j .at)) (le-leb (j .at + 4) (length s) (omega arith)) refl))
 
-    pub list-long : length s - j .at - 4 < 12 * count → refused (record { number = 9; place = j .at }) ≡ keptListAt s j
+    pub list-long : length s - j .at - 4 < 12 * count → refused (runs-past (j .at)) ≡ keptListAt s j
     unfolding keptListAt listOf
     list-long h = sym (bind-refused kept (past-size ∙ sym (fails _ (lt-leb (j .at + 4 + 12 * count) (length s) (omega arith)))))
 
@@ -179,7 +180,7 @@ module _ (s : List ℕ) (j : MapJudge) where
       scanned : keptListAt s j ≡ (scanAt s j (j .at + 4) count >>= λ (t : Table). answer (record { count = count; handles = t }))
       unfolding keptListAt listOf scanAt _>>=_
       scanned =
-          ap (λ (o : Outcome Map). o >>= kept) (past-size ∙ sym (passes 9 (j .at) (le-leb (j .at + 4 + 12 * count) (length s) room-there) refl))
+          ap (λ (o : Outcome Map). o >>= kept) (past-size ∙ sym (passes (runs-past (j .at)) (le-leb (j .at + 4 + 12 * count) (length s) room-there) refl))
           ∙ go (collect count (stepAt s j) (begin (j .at + 4))) refl
         where
           go : (o : Outcome (Found (List MapEntry) Scan)) → collect count (stepAt s j) (begin (j .at + 4)) ≡ o
@@ -192,17 +193,17 @@ module _ (s : List ℕ) (j : MapJudge) where
           → y ≡ (handles-outcome c >>= λ (t : Table). answer (record { count = count; handles = t })) → y ≡ keptListAt s j
       list-by e m g = said handles-outcome _ e m g ∙ sym scanned
 
-pub map-outside : (f : List ℕ) (h : Header) {s : List ℕ} {b : Bool} → s ≡ section f h → b ≡ allowed (h .start) (length s) true (h .map) → b ≡ false
-    → refused (record { number = 8; place = 0 }) ≡ keptAt f h
+pub map-outside : (f : List ℕ) (h : Header) {s : List ℕ} {b : Bool} → s ≡ up-to-end f h → b ≡ allowed (h .start) (length s) true (h .map) → b ≡ false
+    → refused (wrong-offset 0) ≡ keptAt f h
 unfolding keptAt mapAt
 map-outside f h e a t = sym (bind-refused kept (sym (fails _ (sym (ap (λ (x : List ℕ). allowed (h .start) (length x) true (h .map)) e) ∙ sym a ∙ t))))
 
-pub map-inside : (f : List ℕ) (h : Header) {s : List ℕ} {b : Bool} {y : Outcome MapList} → s ≡ section f h → b ≡ allowed (h .start) (length s) true (h .map) → b ≡ true
+pub map-inside : (f : List ℕ) (h : Header) {s : List ℕ} {b : Bool} {y : Outcome MapList} → s ≡ up-to-end f h → b ≡ allowed (h .start) (length s) true (h .map) → b ≡ true
     → y ≡ keptListAt s (judge-of f h) → y ≡ keptAt f h
 unfolding keptAt mapAt keptListAt
 map-inside f h {s} {b} {y} e a t g =
     g ∙ ap (λ (x : List ℕ). listAt x (judge-of f h) >>= kept) e
-    ∙ ap (λ (o : Outcome Map). o >>= kept) (passes 8 0 (sym (ap (λ (x : List ℕ). allowed (h .start) (length x) true (h .map)) e) ∙ sym a ∙ t) refl)
+    ∙ ap (λ (o : Outcome Map). o >>= kept) (passes (wrong-offset 0) (sym (ap (λ (x : List ℕ). allowed (h .start) (length x) true (h .map)) e) ∙ sym a ∙ t) refl)
 
 pub on-map : {B : Type 0} {x c : MapAnswer} {o : Outcome MapList} {y : Outcome B} (k : MapList → Outcome B) → map-outcome x ≡ o → x ≡ c → y ≡ (map-outcome c >>= k) → y ≡ (o >>= k)
 on-map = said map-outcome

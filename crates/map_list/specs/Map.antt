@@ -4,13 +4,14 @@ use mathlib.Core.Bool.{Bool, true, cond, _&&_}
 use mathlib.Core.List.{List}
 use lib.ListN.{length, getD, set, replicate}
 use lib.Dec.{ltb, leb, eqb}
+use Rattle.refusal.specs.Refusals.{runs-past, wrong-map, wrong-offset}
 use Rattle.refusal.specs.Outcome.{Outcome, answer, _>>=_, given}
 use Rattle.refusal.specs.Rows.{Found, collect}
 use Rattle.word.specs.Words.{u16At, u32At}
 use Rattle.word.specs.declared.Endian.{Endian}
 use Rattle.header.specs.declared.Header.{Header}
 use Rattle.header.specs.declared.Table.{Table}
-use Rattle.header.specs.Header.{section}
+use Rattle.header.specs.Header.{up-to-end}
 use Rattle.frame.specs.Offsets.{allowed}
 use Rattle.map_list.specs.declared.MapEntry.{MapEntry}
 use Rattle.map_list.specs.declared.MapList.{MapList}
@@ -23,7 +24,7 @@ entryAt o s p = record { kind = u16At o s p; size = u32At o s (p + 4); offset = 
 
 -- entry k of the map
 unfoldable pub entryNumber : List ℕ → Header → ℕ → MapEntry
-entryNumber f h k = entryAt (h .order) (section f h) (h .map + 4 + 12 * k)
+entryNumber f header k = entryAt (header .order) (up-to-end f header) (header .map + 4 + 12 * k)
 
 -- "Type 8 gives the count and place of method handles, 8 bytes each, at 112 or later, a multiple of 4, inside the file."
 unfoldable pub handlesAllowed : ℕ → ℕ → ℕ → Bool
@@ -56,8 +57,8 @@ after-entry t e = record { place = t .place + 12; floor = e .offset + 1; seen = 
 -- an entry, judged: "All these faults are 16, at the map's offset."
 unfoldable pub judged : MapJudge → Scan → MapEntry → Outcome (Found MapEntry Scan)
 judged j t e =
-    given (ltb (mapCodeNumber (e .kind)) 21) 16 (j .at)
-    (given (nextAllowed j e (t .floor) (getD (t .seen) (mapCodeNumber (e .kind)) 0)) 16 (j .at)
+    given (ltb (mapCodeNumber (e .kind)) 21) (wrong-map (j .at))
+    (given (nextAllowed j e (t .floor) (getD (t .seen) (mapCodeNumber (e .kind)) 0)) (wrong-map (j .at))
     (answer (record { item = e; next = after-entry t e })))
 
 unfoldable pub stepAt : List ℕ → MapJudge → Scan → Outcome (Found MapEntry Scan)
@@ -75,19 +76,19 @@ pub record Map : Type 0 where
 -- the list at the map's offset: its length first (9), then its entries
 unfoldable pub listOf : List ℕ → MapJudge → ℕ → Outcome Map
 listOf s j count =
-    given (leb (j .at + 4 + 12 * count) (length s)) 9 (j .at) do
+    given (leb (j .at + 4 + 12 * count) (length s)) (runs-past (j .at)) do
       r ← collect count (stepAt s j) (begin (j .at + 4))
       answer (record { entries = r .item; handles = r .next .handles })
 
 unfoldable pub listAt : List ℕ → MapJudge → Outcome Map
-listAt s j = given (leb (j .at + 4) (length s)) 9 (j .at) (listOf s j (u32At (j .order) s (j .at)))
+listAt s j = given (leb (j .at + 4) (length s)) (runs-past (j .at)) (listOf s j (u32At (j .order) s (j .at)))
 
 abbrev pub judge-of : List ℕ → Header → MapJudge
-judge-of f h = record { order = h .order; version = h .version; length = length f; at = h .map }
+judge-of f header = record { order = header .order; version = header .version; length = length f; at = header .map }
 
 -- the map of a file with this header: 8 at place 0 for its own offset, which is a multiple of 4
 unfoldable pub mapAt : List ℕ → Header → Outcome Map
-mapAt f h = given (allowed (h .start) (length (section f h)) true (h .map)) 8 0 (listAt (section f h) (judge-of f h))
+mapAt f header = given (allowed (header .start) (length (up-to-end f header)) true (header .map)) (wrong-offset 0) (listAt (up-to-end f header) (judge-of f header))
 
 -- what the code keeps
 abbrev pub kept : Map → Outcome MapList
@@ -102,4 +103,4 @@ unfoldable pub keptListAt : List ℕ → MapJudge → Outcome MapList
 keptListAt s j = listAt s j >>= kept
 
 unfoldable pub keptAt : List ℕ → Header → Outcome MapList
-keptAt f h = mapAt f h >>= kept
+keptAt f header = mapAt f header >>= kept

@@ -8,7 +8,7 @@ use Rattle.refusal.specs.Exact.{At, Each, Rising}
 use Rattle.word.specs.Words.{u32At}
 use Rattle.header.specs.declared.Header.{Header}
 use Rattle.header.specs.declared.Table.{Table}
-use Rattle.header.specs.Header.{section}
+use Rattle.header.specs.Header.{up-to-end}
 use Rattle.frame.specs.Offsets.{Allowed}
 use Rattle.map_list.specs.declared.MapEntry.{MapEntry}
 use Rattle.map_list.specs.declared.MapJudge.{MapJudge}
@@ -50,6 +50,6 @@ pub record MapEntriesRule (s : List ℕ) (j : MapJudge) (m : Map) : Type 0 where
   pub once : {i k : ℕ} {a b : MapEntry} → At (m .entries) i a → At (m .entries) k b → a .kind ≡ b .kind → i ≡ k
   pub handles : HandlesIn (m .entries) (m .handles)
 
-pub record MapRule (f : List ℕ) (h : Header) (m : Map) : Type 0 where
-  pub offset : Allowed (h .start) (length (section f h)) true (h .map)
-  pub list : MapEntriesRule (section f h) (judge-of f h) m
+pub record MapRule (f : List ℕ) (header : Header) (m : Map) : Type 0 where
+  pub offset : Allowed (header .start) (length (up-to-end f header)) true (header .map)
+  pub list : MapEntriesRule (up-to-end f header) (judge-of f header) m

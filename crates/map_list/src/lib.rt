@@ -80,7 +80,7 @@ fn code_of(kind: u16) -> usize
 }
 
 // The entry at a place.
-pub fn entry_at(s: &[u8], order: Endian, at: usize) -> MapEntry
+fn entry_at(s: &[u8], order: Endian, at: usize) -> MapEntry
     ensures { λ r. ⌜ r ≡ entryAt order (now (s .entry)) at ⌝ }
 {
     if s.len() <= at {
@@ -98,12 +98,12 @@ pub fn entry_at(s: &[u8], order: Endian, at: usize) -> MapEntry
 }
 
 // Entry k of the map.
-pub fn entry_number(f: &[u8], h: Header, k: u32) -> MapEntry
-    ensures { λ r. ⌜ r ≡ entryNumber (now (f .entry)) h k ⌝ }
+pub fn entry_number(f: &[u8], header: Header, k: u32) -> MapEntry
+    ensures { λ r. ⌜ r ≡ entryNumber (now (f .entry)) header k ⌝ }
 {
-    let order = h.order;
-    let map = h.map;
-    let s = header::section_of(f, h);
+    let order = header.order;
+    let map = header.map;
+    let s = header::up_to_end(f, header);
     if s.len() <= map {
         return MapEntry {
             kind: 0,
@@ -243,19 +243,19 @@ fn list_at(s: &[u8], j: MapJudge) -> MapAnswer
 }
 
 // The map of a file with this header: 8 for its own offset, 9, and then 16.
-pub fn map_of(f: &[u8], h: Header) -> MapAnswer
-    ensures { λ r. ⌜ map-outcome r ≡ keptAt (now (f .entry)) h ⌝ }
+pub fn map_of(f: &[u8], header: Header) -> MapAnswer
+    ensures { λ r. ⌜ map-outcome r ≡ keptAt (now (f .entry)) header ⌝ }
 {
-    let order = h.order;
-    let s = header::section_of(f, h);
-    if frame::is_allowed(h.start, s.len(), true, h.map) {
+    let order = header.order;
+    let s = header::up_to_end(f, header);
+    if frame::is_allowed(header.start, s.len(), true, header.map) {
         return list_at(
             s,
             MapJudge {
                 order,
-                version: h.version,
+                version: header.version,
                 length: f.len(),
-                at: h.map,
+                at: header.map,
             },
         );
     }

@@ -13,6 +13,7 @@ use native.Mathlib.Numerals.{add-one}
 use native.Mathlib.Omega.{arith}
 use mir.Syntax.{w64}
 use mir.Val.{Fits}
+use Rattle.refusal.specs.Refusals.{no-room}
 use Rattle.refusal.specs.declared.Refusal.{Refusal}
 use Rattle.refusal.specs.Outcome.{Outcome, answer, refused, given}
 use Rattle.header.specs.declared.Header.{Header}
@@ -137,7 +138,7 @@ got-length : (text : List ℕ) (room k : ℕ) → answer k ≡ written text room
 unfolding written given
 got-length text room k e = by-length (leb (length text) room) refl e
   where
-    by-length : (b : Bool) → leb (length text) room ≡ b → answer k ≡ given b 19 0 (answer (length text)) → (k ≡ length text) × (length text ≤ room)
+    by-length : (b : Bool) → leb (length text) room ≡ b → answer k ≡ given b no-room (answer (length text)) → (k ≡ length text) × (length text ≤ room)
     by-length true t q = (cc q, leb-true (length text) room t)
     by-length false t q = let z : _≡_ {A = ℕ} 0 1 = cc q in absurd (omega arith)
 
@@ -145,7 +146,7 @@ refused-length : (text : List ℕ) (room : ℕ) (r : Refusal) → refused r ≡ 
 unfolding written given
 refused-length text room r e = by-length (leb (length text) room) refl e
   where
-    by-length : (b : Bool) → leb (length text) room ≡ b → refused r ≡ given b 19 0 (answer (length text)) → room < length text
+    by-length : (b : Bool) → leb (length text) room ≡ b → refused r ≡ given b no-room (answer (length text)) → room < length text
     by-length true t q = let z : _≡_ {A = ℕ} 0 1 = cc q in absurd (omega arith)
     by-length false t q = leb-false (length text) room t
 
@@ -159,7 +160,7 @@ module _ (name out : List ℕ) (o : Outcome Header) (at : ℕ) (long : at ≡ le
   output-long = length-append (heading name) (reportOf o) ∙ ap (λ (k : ℕ). k + length (reportOf o)) (sym long)
 
   -- no room for the name
-  pub no-room-answer : length out < at → refused (record { number = 19; place = 0 }) ≡ written (outputOf name o) (length out)
+  pub no-room-answer : length out < at → refused no-room ≡ written (outputOf name o) (length out)
   no-room-answer l = short-answer (outputOf name o) out (let z = output-long in omega arith)
 
   pub no-room-content : length out < at → out ≡ content (outputOf name o) out

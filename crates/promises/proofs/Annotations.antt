@@ -9,6 +9,7 @@ use lib.ListN.{length, length-take}
 use borrow.Author.Tests.{lt-ltb, le-ltb}
 use native.Mathlib.Nat.{min-le-left}
 use native.Mathlib.Omega.{arith}
+use Rattle.refusal.specs.Refusals.{not-there}
 use Rattle.refusal.specs.Outcome.{Outcome, answer, _>>=_}
 use Rattle.refusal.specs.Exact.{Present, absent, found-there, Each, At}
 use Rattle.refusal.proofs.Laws.{bind-answer, passes, picks, leaves, absent-there, present-there}
@@ -17,7 +18,7 @@ use Rattle.refusal.proofs.Rows.{bind-assoc}
 use Rattle.frame.specs.Offsets.{Allowed}
 use Rattle.frame.proofs.Laws.{allowed-decides}
 use Rattle.header.specs.declared.Header.{Header}
-use Rattle.header.specs.Header.{section, frame-of}
+use Rattle.header.specs.Header.{up-to-end, frame-of, plain-frame}
 use Rattle.encoded_value.specs.Tree.{Named}
 use Rattle.value_bodies.specs.Bodies.{pick}
 use Rattle.table_readers.specs.Head.{mappedAt, openedAt}
@@ -48,29 +49,29 @@ use Rattle.promises.proofs.Tables.{headed, mapped, class-at}
 
 module _ (f : List ℕ) (h : Header) (handles : ℕ) where
   -- ---- directories, sets and reference lists hold no values: they are read alike whatever the number of handles
-  directory-alike : (at : ℕ) → directoryAt (section f h) (frame-of h 0) at ≡ directoryAt (section f h) (frame-of h handles) at
+  directory-alike : (at : ℕ) → directoryAt (up-to-end f h) (plain-frame h) at ≡ directoryAt (up-to-end f h) (frame-of h handles) at
   unfolding directoryAt headAt wordAt countsAt listsAt listAt fixedAt entriesFrom entryAt entryOf
   directory-alike at = refl
 
-  offsets-alike : (at : ℕ) (none-at-0 four : Bool) → offsetsAt (section f h) (frame-of h 0) at none-at-0 four ≡ offsetsAt (section f h) (frame-of h handles) at none-at-0 four
+  offsets-alike : (at : ℕ) (none-at-0 four : Bool) → offsetsAt (up-to-end f h) (plain-frame h) at none-at-0 four ≡ offsetsAt (up-to-end f h) (frame-of h handles) at none-at-0 four
   unfolding offsetsAt wordAt fixedAt entriesFrom offsetAt offsetOf
   offsets-alike at none-at-0 four = refl
 
   -- ---- sets
   abbrev Set-there : ℕ → Option (List AnnotationItem) → Type 0
-  Set-there at o = Present (SetBelow (section f h) (frame-of h handles) at) at o
+  Set-there at o = Present (SetBelow (up-to-end f h) (frame-of h handles) at) at o
 
-  set-read : {at : ℕ} {l : List AnnotationItem} (rule : SetBelow (section f h) (frame-of h handles) at l) → offsetsAt (section f h) (frame-of h 0) at false false ≡ answer (rule .offsets)
-  set-read {at} rule = offsets-alike at false false ∙ offsets-exact (section f h) (frame-of h handles) at false false .complete (rule .offsets) (rule .rule)
+  set-read : {at : ℕ} {l : List AnnotationItem} (rule : SetBelow (up-to-end f h) (frame-of h handles) at l) → offsetsAt (up-to-end f h) (plain-frame h) at false false ≡ answer (rule .offsets)
+  set-read {at} rule = offsets-alike at false false ∙ offsets-exact (up-to-end f h) (frame-of h handles) at false false .complete (rule .offsets) (rule .rule)
 
   set-counted : {at : ℕ} {o : Option (List AnnotationItem)} → Set-there at o → S.setCount f h at ≡ answer (length (listed o))
   unfolding S.setCount offsetCount
-  set-counted {at} (absent e) = sym (leaves (offsetCount (section f h) (frame-of h 0) at false false) (le-ltb 0 at (omega arith)) refl)
+  set-counted {at} (absent e) = sym (leaves (offsetCount (up-to-end f h) (plain-frame h) at false false) (le-ltb 0 at (omega arith)) refl)
   set-counted {at} (found-there p rule) = sym (picks (answer 0) (lt-ltb 0 at p) refl) ∙ bind-answer _ (set-read rule) ∙ ap answer (sym (rule .items .count))
 
   set-numbered : {at : ℕ} {o : Option (List AnnotationItem)} → Set-there at o → (k : ℕ) → S.setNumber f h at k ≡ (pick k (listed o) >>= λ (a : AnnotationItem). answer (a .place))
   unfolding S.setNumber offsetNumber
-  set-numbered {at} (absent e) k = sym (leaves (offsetNumber (section f h) (frame-of h 0) at false false k) (le-ltb 0 at (omega arith)) refl) ∙ pick-empty k _
+  set-numbered {at} (absent e) k = sym (leaves (offsetNumber (up-to-end f h) (plain-frame h) at false false k) (le-ltb 0 at (omega arith)) refl) ∙ pick-empty k _
   set-numbered {at} (found-there {a = l} p rule) k =
       sym (picks _ (lt-ltb 0 at p) refl)
       ∙ bind-answer _ (set-read rule)
@@ -79,9 +80,9 @@ module _ (f : List ℕ) (h : Header) (handles : ℕ) where
       (λ x a m n. ap answer (sym (rule .rule .offsets .entries .each m .stands) ∙ rule .items .each n .place))
 
   -- ---- reference lists
-  module _ {at : ℕ} {l : List (Option (List AnnotationItem))} (rule : ReferencesBelow (section f h) (frame-of h handles) at l) where
-    references-read : offsetsAt (section f h) (frame-of h 0) at true true ≡ answer (rule .offsets)
-    references-read = offsets-alike at true true ∙ offsets-exact (section f h) (frame-of h handles) at true true .complete (rule .offsets) (rule .rule)
+  module _ {at : ℕ} {l : List (Option (List AnnotationItem))} (rule : ReferencesBelow (up-to-end f h) (frame-of h handles) at l) where
+    references-read : offsetsAt (up-to-end f h) (plain-frame h) at true true ≡ answer (rule .offsets)
+    references-read = offsets-alike at true true ∙ offsets-exact (up-to-end f h) (frame-of h handles) at true true .complete (rule .offsets) (rule .rule)
 
     references-counted : S.referencesIn f h at ≡ answer (length l)
     unfolding S.referencesIn offsetCount
@@ -99,16 +100,16 @@ module _ (f : List ℕ) (h : Header) (handles : ℕ) where
 
   -- ---- directories
   abbrev pub Directory-there : ℕ → Option Annotated → Type 0
-  Directory-there at o = Present (DirectoryBelow (section f h) (frame-of h handles) at) at o
+  Directory-there at o = Present (DirectoryBelow (up-to-end f h) (frame-of h handles) at) at o
 
-  directory-read : {at : ℕ} {a : Annotated} (rule : DirectoryBelow (section f h) (frame-of h handles) at a) → directoryAt (section f h) (frame-of h 0) at ≡ answer (rule .directory)
-  directory-read {at} rule = directory-alike at ∙ directory-exact (section f h) (frame-of h handles) at .complete (rule .directory) (rule .rule)
+  directory-read : {at : ℕ} {a : Annotated} (rule : DirectoryBelow (up-to-end f h) (frame-of h handles) at a) → directoryAt (up-to-end f h) (plain-frame h) at ≡ answer (rule .directory)
+  directory-read {at} rule = directory-alike at ∙ directory-exact (up-to-end f h) (frame-of h handles) at .complete (rule .directory) (rule .rule)
 
   head-read : {at : ℕ} {o : Option Annotated} → Directory-there at o → D.headIn f h at ≡ answer (head-of o)
   unfolding D.headIn directoryHead
-  head-read {at} (absent e) = sym (absent-there (directoryHead (section f h) (frame-of h 0) at) (omega arith))
+  head-read {at} (absent e) = sym (absent-there (directoryHead (up-to-end f h) (plain-frame h) at) (omega arith))
   head-read {at} (found-there p rule) =
-      sym (present-there (directoryHead (section f h) (frame-of h 0) at) p refl)
+      sym (present-there (directoryHead (up-to-end f h) (plain-frame h) at) p refl)
       ∙ bind-answer _ (bind-answer _ (directory-read rule))
       ∙ λ i. answer (some (record { set = rule .set i; fields = sym (rule .fields .count) i; methods = sym (rule .methods .count) i; parameters = sym (rule .parameters .count) i }))
 
@@ -117,8 +118,8 @@ module _ (f : List ℕ) (h : Header) (handles : ℕ) where
     limit : ℕ
     from : ℕ
     count : ℕ
-    own : Fixed (section f h) (DirectoryEntryRule (section f h) (frame-of h handles) item limit) 8 from count l
-    below : Each (λ (n : ℕ) (u : Under B). EntryBelow (section f h) (frame-of h handles) Below (from + 8 * n) u) count us
+    own : Fixed (up-to-end f h) (DirectoryEntryRule (up-to-end f h) (frame-of h handles) item limit) 8 from count l
+    below : Each (λ (n : ℕ) (u : Under B). EntryBelow (up-to-end f h) (frame-of h handles) Below (from + 8 * n) u) count us
 
   -- what is made of an entry is made of its index and offset
   abbrev Made : {B C : Type 0} → (ℕ → B → Type 0) → (DirectoryEntry → Outcome C) → (Under B → Outcome C) → Type 0
@@ -137,11 +138,11 @@ module _ (f : List ℕ) (h : Header) (handles : ℕ) where
 
   -- one of the three lists of a directory, whose entries lead to sets or to reference lists
   module _ {B : Type 0} (Below : ℕ → B → Type 0) (list : ℕ) (part : Annotated → List (Under B))
-      (both : (at : ℕ) (a : Annotated) (rule : DirectoryBelow (section f h) (frame-of h handles) at a) → Entries Below at (listOf (rule .directory) list) (part a)) where
+      (both : (at : ℕ) (a : Annotated) (rule : DirectoryBelow (up-to-end f h) (frame-of h handles) at a) → Entries Below at (listOf (rule .directory) list) (part a)) where
     entry-at : {C : Type 0} {at : ℕ} {o : Option Annotated} → Directory-there at o → (e : ℕ) (k : DirectoryEntry → Outcome C) (g : Under B → Outcome C)
         → Made Below k g → (D.entryIn f h at list e >>= k) ≡ (pick e (under part o) >>= g)
     unfolding D.entryIn directoryEntry _>>=_
-    entry-at {at = at} (absent x) e k g same = ap (λ (o : Outcome DirectoryEntry). o >>= k) (sym (leaves (directoryEntry (section f h) (frame-of h 0) at list e) (le-ltb 0 at (omega arith)) refl)) ∙ pick-empty e g
+    entry-at {at = at} (absent x) e k g same = ap (λ (o : Outcome DirectoryEntry). o >>= k) (sym (leaves (directoryEntry (up-to-end f h) (plain-frame h) at list e) (le-ltb 0 at (omega arith)) refl)) ∙ pick-empty e g
     entry-at {at = at} (found-there {a = a} p rule) e k g same =
         ap (λ (o : Outcome DirectoryEntry). o >>= k) (sym (picks _ (lt-ltb 0 at p) refl) ∙ bind-answer _ (directory-read rule))
         ∙ entries-both (listOf (rule .directory) list) (part a) (both at a rule) e k g same
@@ -154,16 +155,16 @@ module _ (f : List ℕ) (h : Header) (handles : ℕ) where
     unfolding S.entrySetIn
     entry-set-at there e k g same = bind-assoc _ _ k ∙ entry-at there e _ g (λ u b l. bind-answer k refl ∙ same u b l)
 
-  module _ (at : ℕ) (a : Annotated) (rule : DirectoryBelow (section f h) (frame-of h handles) at a) where
-    field-entries : Entries (SetBelow (section f h) (frame-of h handles)) at (listOf (rule .directory) 0) (a .fields)
+  module _ (at : ℕ) (a : Annotated) (rule : DirectoryBelow (up-to-end f h) (frame-of h handles) at a) where
+    field-entries : Entries (SetBelow (up-to-end f h) (frame-of h handles)) at (listOf (rule .directory) 0) (a .fields)
     unfolding listOf
     field-entries = record { limit = _; from = _; count = _; own = rule .rule .fields; below = rule .fields }
 
-    method-entries : Entries (SetBelow (section f h) (frame-of h handles)) at (listOf (rule .directory) 1) (a .methods)
+    method-entries : Entries (SetBelow (up-to-end f h) (frame-of h handles)) at (listOf (rule .directory) 1) (a .methods)
     unfolding listOf
     method-entries = record { limit = _; from = _; count = _; own = rule .rule .methods; below = rule .methods }
 
-    parameter-entries : Entries (ReferencesBelow (section f h) (frame-of h handles)) at (listOf (rule .directory) 2) (a .parameters)
+    parameter-entries : Entries (ReferencesBelow (up-to-end f h) (frame-of h handles)) at (listOf (rule .directory) 2) (a .parameters)
     unfolding listOf
     parameter-entries = record { limit = _; from = _; count = _; own = rule .rule .parameters; below = rule .parameters }
 
@@ -190,7 +191,7 @@ module _ (f : List ℕ) {r : File} (reads : Reads f r) where
 
   -- the set or the reference list that entry e of a list leads to, and what is made of it
   module _ {B C : Type 0} (Below : ℕ → B → Type 0) (list : ℕ) (part : Annotated → List (Under B))
-      (both : (at : ℕ) (a : Annotated) (rule : DirectoryBelow (section f (r .header)) (frame-of (r .header) (r .map .handles .count)) at a) → Entries f (r .header) (r .map .handles .count) Below at (listOf (rule .directory) list) (part a))
+      (both : (at : ℕ) (a : Annotated) (rule : DirectoryBelow (up-to-end f (r .header)) (frame-of (r .header) (r .map .handles .count)) at a) → Entries f (r .header) (r .map .handles .count) Below at (listOf (rule .directory) list) (part a))
       (c e : ℕ) (k : Reached → Outcome C) (g : Under B → Outcome C)
       (same : (u : Under B) → Below (u .offset) (u .below) → 0 < u .offset → k (record { header = r .header; place = u .offset }) ≡ g u) where
     entry-leads : (S.entrySet f c list e >>= k) ≡ (pick c (r .classes) >>= λ (b : ClassBelow). pick e (under part (b .annotations)) >>= g)
@@ -200,27 +201,27 @@ module _ (f : List ℕ) {r : File} (reads : Reads f r) where
   -- ---- annotations by place
   -- an annotation of the file: it obeys the rules at its place, which lies in the data section
   pub record Item-there (a : AnnotationItem) : Type 0 where
-    pub rule : AnnotationItemRule (section f (r .header)) (frame-of (r .header) (r .map .handles .count)) (a .place) a
+    pub rule : AnnotationItemRule (up-to-end f (r .header)) (frame-of (r .header) (r .map .handles .count)) (a .place) a
     pub allows : Allowed (r .header .start) (r .header .end) false (a .place)
 
-  pub section-short : length (section f (r .header)) ≤ r .header .end
-  unfolding section
+  pub section-short : length (up-to-end f (r .header)) ≤ r .header .end
+  unfolding up-to-end
   section-short =
       let size = length-take (r .header .end) f in
       let short = min-le-left (r .header .end) (length f) in
       omega arith
 
-  shorter : {x : ℕ} → Allowed (r .header .start) (length (section f (r .header))) false x → Allowed (r .header .start) (r .header .end) false x
+  shorter : {x : ℕ} → Allowed (r .header .start) (length (up-to-end f (r .header))) false x → Allowed (r .header .start) (r .header .end) false x
   shorter a = record { from = a .from; before-end = let x = a .before-end in let y = section-short in omega arith; multiple = a .multiple }
 
-  item-there : {at k : ℕ} {l : List AnnotationItem} {a : AnnotationItem} → SetBelow (section f (r .header)) (frame-of (r .header) (r .map .handles .count)) at l → At l k a → Item-there a
+  item-there : {at k : ℕ} {l : List AnnotationItem} {a : AnnotationItem} → SetBelow (up-to-end f (r .header)) (frame-of (r .header) (r .map .handles .count)) at l → At l k a → Item-there a
   unfolding OffsetAllowed
   item-there {k = k} {a = a} rule m =
       let item = rule .items .each m in
       let found = at-some (rule .offsets) k (let x = at-below m in let y = rule .items .count in omega arith) in
       let offset = rule .rule .offsets .entries .each (found .1) in
       record {
-        rule = subst (λ (x : ℕ). AnnotationItemRule (section f (r .header)) (frame-of (r .header) (r .map .handles .count)) x a) (item .place) item;
+        rule = subst (λ (x : ℕ). AnnotationItemRule (up-to-end f (r .header)) (frame-of (r .header) (r .map .handles .count)) x a) (item .place) item;
         allows = subst (Allowed (r .header .start) (r .header .end) false) (sym (offset .stands) ∙ item .place) (shorter (offset .allows));
       }
 
@@ -229,7 +230,7 @@ module _ (f : List ℕ) {r : File} (reads : Reads f r) where
   item-listed (found-there p rule) m = item-there rule m
 
   -- in the set of a class, a field, a method or a parameter
-  item-below : {at : ℕ} {d : Annotated} {a : AnnotationItem} → DirectoryBelow (section f (r .header)) (frame-of (r .header) (r .map .handles .count)) at d → ItemOf d a → Item-there a
+  item-below : {at : ℕ} {d : Annotated} {a : AnnotationItem} → DirectoryBelow (up-to-end f (r .header)) (frame-of (r .header) (r .map .handles .count)) at d → ItemOf d a → Item-there a
   item-below rule (of-class m) = item-listed (rule .own) m
   item-below rule (of-field n m) = item-there (rule .fields .each n .below) m
   item-below rule (of-method n m) = item-there (rule .methods .each n .below) m
@@ -248,11 +249,11 @@ module _ (f : List ℕ) {r : File} (reads : Reads f r) where
   -- a place in the data section passes: "7: .. or a body place outside the data section"
   pub opened-within : {x : ℕ} → Allowed (r .header .start) (r .header .end) false x → openedWithin f x ≡ answer (record { header = r .header; handles = r .map .handles .count })
   unfolding openedWithin
-  opened-within {x} a = bind-answer _ opened ∙ sym (passes 7 0 (allowed-decides (r .header .start) (r .header .end) false x .complete a) refl)
+  opened-within {x} a = bind-answer _ opened ∙ sym (passes not-there (allowed-decides (r .header .start) (r .header .end) false x .complete a) refl)
 
   module _ {a : AnnotationItem} (i : ItemIn r a) where
-    item-read : itemAt (section f (r .header)) (frame-of (r .header) (r .map .handles .count)) (a .place) ≡ answer a
-    item-read = item-exact (section f (r .header)) (frame-of (r .header) (r .map .handles .count)) (a .place) .complete a (item-in i .rule)
+    item-read : itemAt (up-to-end f (r .header)) (frame-of (r .header) (r .map .handles .count)) (a .place) ≡ answer a
+    item-read = item-exact (up-to-end f (r .header)) (frame-of (r .header) (r .map .handles .count)) (a .place) .complete a (item-in i .rule)
 
     summary-read : I.annotationOf f (a .place) ≡ answer (summary-of a)
     unfolding I.annotationOf itemSummary
@@ -267,8 +268,8 @@ unfolding D.directory D.entryNumber S.annotationCount S.annotationPlace S.classS
 annotations-agree f {r} reads =
     let h = r .header in
     let n = r .map .handles .count in
-    let Sets = SetBelow (section f h) (frame-of h n) in
-    let Lists = ReferencesBelow (section f h) (frame-of h n) in
+    let Sets = SetBelow (up-to-end f h) (frame-of h n) in
+    let Lists = ReferencesBelow (up-to-end f h) (frame-of h n) in
     let fields : Annotated → List (Under (List AnnotationItem)) = λ d. d .fields in
     let methods : Annotated → List (Under (List AnnotationItem)) = λ d. d .methods in
     let parameters : Annotated → List (Under (List (Option (List AnnotationItem)))) = λ d. d .parameters in

@@ -10,7 +10,7 @@ use Rattle.refusal.specs.Outcome.{Outcome, answer, _>>=_}
 use Rattle.refusal.specs.Exact.{Present, At}
 use Rattle.refusal.proofs.Laws.{bind-answer}
 use Rattle.refusal.proofs.Each.{at-below}
-use Rattle.header.specs.Header.{section, frame-of}
+use Rattle.header.specs.Header.{up-to-end, frame-of}
 use Rattle.value_bodies.specs.Bodies.{pick}
 use Rattle.value_bodies.proofs.Picks.{pick-there}
 use Rattle.annotation_items.specs.Items.{AnnotationItem}
@@ -96,13 +96,13 @@ module _ (f : List ℕ) {r : File} (reads : Reads f r) where
                 (λ k a q. item (of-method m q));
           }
 
-      module _ {at : ℕ} (rule : DirectoryBelow (section f (r .header)) (frame-of (r .header) (r .map .handles .count)) at d) where
+      module _ {at : ℕ} (rule : DirectoryBelow (up-to-end f (r .header)) (frame-of (r .header) (r .map .handles .count)) at d) where
         parameter-answers : (e : ℕ) (u : Under (List (Option (List AnnotationItem)))) → At (d .parameters) e u → ParameterEntryAnswered f r c e u
         parameter-answers e u m =
             let notes = annotations-agree f reads in
             let w = there-under (λ (x : Annotated). x .parameters) directory-is m in
             let entry = rule .parameters .each m in
-            let list = subst (λ (x : ℕ). ReferencesBelow (section f (r .header)) (frame-of (r .header) (r .map .handles .count)) x (u .below)) (entry .offset) (entry .below) in
+            let list = subst (λ (x : ℕ). ReferencesBelow (up-to-end f (r .header)) (frame-of (r .header) (r .map .handles .count)) x (u .below)) (entry .offset) (entry .below) in
             record {
               parameter-entry = notes .parameter-entry c e ∙ bind-answer _ (pick-there class-is) ∙ bind-answer _ (pick-there w);
               index = method-answered f reads _ (value-indices f reads .parameter-index class-is w);
@@ -118,7 +118,7 @@ module _ (f : List ℕ) {r : File} (reads : Reads f r) where
 
         pub directory-answered : DirectoryAnswered f r c d
         directory-answered = record {
-          class-set-there = λ p. is-there (subst (λ (x : ℕ). Present (SetBelow (section f (r .header)) (frame-of (r .header) (r .map .handles .count)) x) x (d .own)) (rule .set) (rule .own)) p;
+          class-set-there = λ p. is-there (subst (λ (x : ℕ). Present (SetBelow (up-to-end f (r .header)) (frame-of (r .header) (r .map .handles .count)) x) x (d .own)) (rule .set) (rule .own)) p;
           field-entry = each-number (d .fields) field-answers;
           method-entry = each-number (d .methods) method-answers;
           parameter-entry = each-number (d .parameters) parameter-answers;

@@ -11,7 +11,7 @@ use borrow.Author.Tests.{eq-eqb}
 use native.Mathlib.Omega.{arith}
 use Rattle.refusal.specs.Exact.{Present, absent, found-there, Row, empty, first, here, there, Alike}
 use Rattle.refusal.proofs.Each.{at-below, at-some}
-use Rattle.header.specs.Header.{section, frame-of}
+use Rattle.header.specs.Header.{up-to-end, plain-frame}
 use Rattle.class_ids.specs.declared.Class.{Class}
 use Rattle.class_ids.specs.declared.Maybe.the-variants.{Number, Absent}
 use Rattle.class_ids.specs.Classes.{maybeOf}
@@ -85,13 +85,13 @@ module _ (f : List ℕ) {r : File} (reads : Reads f r) where
   types-in (found-there p rule) k t m = kind-in (rule .entries .each m .range)
 
   -- ---- code and debug information
-  caught : {at : ℕ} (x : Code) → CodeRule (section f (r .header)) (frame-of (r .header) 0) at x → All (λ (h : Handler). All (λ (p : Pair). Kind r (p .kind)) (h .pairs)) (x .handlers .handlers)
+  caught : {at : ℕ} (x : Code) → CodeRule (up-to-end f (r .header)) (plain-frame (r .header)) at x → All (λ (h : Handler). All (λ (p : Pair). Kind r (p .kind)) (h .pairs)) (x .handlers .handlers)
   caught {at} x rule = by (rule .handlers)
     where
       Caught : Handler → Type 0
       Caught h = All (λ (p : Pair). Kind r (p .kind)) (h .pairs)
 
-      by : ((0 < x .head .tries) × HandlersRule (section f (r .header)) (judge-of (frame-of (r .header) 0) at (x .head) (x .base)) (x .handlers))
+      by : ((0 < x .head .tries) × HandlersRule (up-to-end f (r .header)) (judge-of (plain-frame (r .header)) at (x .head) (x .base)) (x .handlers))
           ⊎ ((0 < x .head .tries → ⊥) × (record { first = x .base; handlers = []; end = x .base } ≡ x .handlers)) → All Caught (x .handlers .handlers)
       by (inl h) = row-all Caught (λ s a t q. row-all (λ (p : Pair). Kind r (p .kind)) (λ s p t w. kind-in (w .below)) (q .pairs)) (h .1 .handlers)
       by (inr h) = subst (λ (l : HandlerList). All Caught (l .handlers)) (h .1) (all-none Caught)
@@ -100,21 +100,21 @@ module _ (f : List ℕ) {r : File} (reads : Reads f r) where
   named none h = tt
   named (some v) h = string-in h
 
-  body-in : {at : ℕ} (b : Body) → BodyRule (section f (r .header)) (frame-of (r .header) 0) at b → BodyIndices r b
+  body-in : {at : ℕ} (b : Body) → BodyRule (up-to-end f (r .header)) (plain-frame (r .header)) at b → BodyIndices r b
   body-in b rule =
       record {
         catches = caught (b .code) (rule .code);
         names = if-present (λ (d : Debug). All (If-there (String r)) (d .names)) (λ d q. row-all (If-there (String r)) (λ s n t w. named n (w .below)) (q .names)) (rule .debug);
       }
 
-  bodies-in : {l : List M.Member} {m : List (Option Body)} → Alike (MethodRule (section f (r .header)) (frame-of (r .header) 0)) l m → All (If-there (BodyIndices r)) m
+  bodies-in : {l : List M.Member} {m : List (Option Body)} → Alike (MethodRule (up-to-end f (r .header)) (plain-frame (r .header))) l m → All (If-there (BodyIndices r)) m
   bodies-in {l} {m} both = alike-all (If-there (BodyIndices r)) (λ x o rule. if-present (BodyIndices r) (λ b q. body-in b q) rule) l m both
 
   -- ---- class data
-  members-in : (j : MemberJudge) (Own : ℕ → Type 0) → ((n : ℕ) → n < j .limit → Own n) → {p count q : ℕ} {l : List M.Member} → MembersRule (section f (r .header)) j p count l q → All (λ (m : M.Member). Own (m .index)) l
+  members-in : (j : MemberJudge) (Own : ℕ → Type 0) → ((n : ℕ) → n < j .limit → Own n) → {p count q : ℕ} {l : List M.Member} → MembersRule (up-to-end f (r .header)) j p count l q → All (λ (m : M.Member). Own (m .index)) l
   members-in j Own low rule k m p = low (m .index) (rule .below p)
 
-  data-in : {at : ℕ} (d : DataBelow) → DataBelowRule (section f (r .header)) (frame-of (r .header) 0) at d → DataIndices r d
+  data-in : {at : ℕ} (d : DataBelow) → DataBelowRule (up-to-end f (r .header)) (plain-frame (r .header)) at d → DataIndices r d
   data-in d rule =
       record {
         statics = members-in _ (Field r) (λ n p. field-in p) (rule .members .statics);

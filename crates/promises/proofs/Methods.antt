@@ -8,6 +8,7 @@ use lib.ListN.{length, getD}
 use lib.Dec.{ltb, leb}
 use borrow.Author.Tests.{ne-eqb}
 use native.Mathlib.Omega.{arith}
+use Rattle.refusal.specs.Refusals.{no-room, not-there}
 use Rattle.refusal.specs.Outcome.{Outcome, answer, refused, _>>=_, given}
 use Rattle.refusal.specs.Seek.{position}
 use Rattle.refusal.specs.Exact.{Exact, Present, absent, found-there, Alike, Sought}
@@ -16,7 +17,7 @@ use Rattle.refusal.proofs.Exact.{answer-exact, exact-iff}
 use Rattle.refusal.proofs.Seek.{sought-same}
 use Rattle.refusal.proofs.Rows.{bind-assoc}
 use Rattle.header.specs.declared.Header.{Header}
-use Rattle.header.specs.Header.{headerAt, section, frame-of}
+use Rattle.header.specs.Header.{headerAt, up-to-end, plain-frame}
 use Rattle.frame.specs.declared.Frame.{Frame}
 use Rattle.value_bodies.specs.Bodies.{pick}
 use Rattle.class_ids.specs.declared.Class.{Class}
@@ -73,7 +74,7 @@ member-in s f at d rule list k = bind-answer _ (data-exact s f at .complete d ru
 module _ (f : List ℕ) {r : File} (reads : Reads f r) {C : Type 0} (c : ℕ) where
   -- ---- class data
   data-at : (k : Spot → Outcome (Option C)) (g : DataBelow → Outcome (Option C))
-      → ((at : ℕ) (d : DataBelow) → DataBelowRule (section f (r .header)) (frame-of (r .header) 0) at d → k (record { header = r .header; place = at }) ≡ g d)
+      → ((at : ℕ) (d : DataBelow) → DataBelowRule (up-to-end f (r .header)) (plain-frame (r .header)) at d → k (record { header = r .header; place = at }) ≡ g d)
       → (dataSpot f c >>= onward k) ≡ (data-of r c >>= onward g)
   unfolding dataSpot dataIn _>>=_
   data-at k g same =
@@ -86,21 +87,21 @@ module _ (f : List ℕ) {r : File} (reads : Reads f r) {C : Type 0} (c : ℕ) wh
   module _ (list k : ℕ) where
     -- ---- a method's body: number k of its list
     module _ (then : Spot → Outcome (Option C)) (g : Body → Outcome (Option C))
-        (same : (at : ℕ) (b : Body) → BodyRule (section f (r .header)) (frame-of (r .header) 0) at b → then (record { header = r .header; place = at }) ≡ g b) where
-      bodied : {l : List Member} {m : List (Option Body)} → Alike (MethodRule (section f (r .header)) (frame-of (r .header) 0)) l m
+        (same : (at : ℕ) (b : Body) → BodyRule (up-to-end f (r .header)) (plain-frame (r .header)) at b → then (record { header = r .header; place = at }) ≡ g b) where
+      bodied : {l : List Member} {m : List (Option Body)} → Alike (MethodRule (up-to-end f (r .header)) (plain-frame (r .header))) l m
           → (pick k l >>= λ (x : Member). spotAt (r .header) (x .code) >>= onward then) ≡ (pick k m >>= onward g)
       bodied both = picked-alike both k _ (onward g) (λ x b rule. spotted (r .header) then g rule (λ b q. same _ b q))
 
       -- the code of a field is not there, nor is a fifth list
-      by-list : (list : ℕ) {at : ℕ} (d : DataBelow) → DataBelowRule (section f (r .header)) (frame-of (r .header) 0) at d
-          → (pick k (listOf list (d .members)) >>= λ (x : Member). given (leb 2 list) 7 0 (spotAt (r .header) (x .code)) >>= onward then) ≡ (pick k (bodiesOf list d) >>= onward g)
+      by-list : (list : ℕ) {at : ℕ} (d : DataBelow) → DataBelowRule (up-to-end f (r .header)) (plain-frame (r .header)) at d
+          → (pick k (listOf list (d .members)) >>= λ (x : Member). given (leb 2 list) not-there (spotAt (r .header) (x .code)) >>= onward then) ≡ (pick k (bodiesOf list d) >>= onward g)
       unfolding given _>>=_ pick
       by-list zero d rule = picked-refused (d .members .statics) k
       by-list (suc zero) d rule = picked-refused (d .members .instances) k
       by-list (suc (suc zero)) d rule = bodied (rule .directs)
       by-list (suc (suc (suc zero))) d rule = bodied (rule .virtuals)
       by-list (suc (suc (suc (suc n)))) d rule =
-          ap (λ (l : List Member). pick k l >>= λ (x : Member). given (leb 2 (suc (suc (suc (suc n))))) 7 0 (spotAt (r .header) (x .code)) >>= onward then) (no-list (suc (suc (suc (suc n)))) _ _ _ _ [] (omega arith))
+          ap (λ (l : List Member). pick k l >>= λ (x : Member). given (leb 2 (suc (suc (suc (suc n))))) not-there (spotAt (r .header) (x .code)) >>= onward then) (no-list (suc (suc (suc (suc n)))) _ _ _ _ [] (omega arith))
           ∙ sym (ap (λ (l : List (Option Body)). pick k l >>= onward g) (no-list (suc (suc (suc (suc n)))) _ _ _ _ [] (omega arith)))
 
       body-at : (methodSpot f c list k >>= onward then) ≡ (body-of r c list k >>= onward g)
@@ -110,24 +111,24 @@ module _ (f : List ℕ) {r : File} (reads : Reads f r) {C : Type 0} (c : ℕ) wh
           ∙ data-at (λ (s : Spot). methodUnder f list k s >>= onward then) (λ (d : DataBelow). pick k (bodiesOf list d) >>= onward g) under
           ∙ sym (onward-then (data-of r c) (λ (d : DataBelow). pick k (bodiesOf list d)) g)
         where
-          under : (at : ℕ) (d : DataBelow) → DataBelowRule (section f (r .header)) (frame-of (r .header) 0) at d
+          under : (at : ℕ) (d : DataBelow) → DataBelowRule (up-to-end f (r .header)) (plain-frame (r .header)) at d
               → (methodUnder f list k (record { header = r .header; place = at }) >>= onward then) ≡ (pick k (bodiesOf list d) >>= onward g)
           under at d rule =
-              bind-assoc (memberOf (section f (r .header)) (frame-of (r .header) 0) at list k) (λ (m : Member). given (leb 2 list) 7 0 (spotAt (r .header) (m .code))) (onward then)
-              ∙ ap (λ (o : Outcome Member). o >>= λ (m : Member). given (leb 2 list) 7 0 (spotAt (r .header) (m .code)) >>= onward then)
-              (member-in (section f (r .header)) (frame-of (r .header) 0) at (d .members) (rule .members) list k)
+              bind-assoc (memberOf (up-to-end f (r .header)) (plain-frame (r .header)) at list k) (λ (m : Member). given (leb 2 list) not-there (spotAt (r .header) (m .code))) (onward then)
+              ∙ ap (λ (o : Outcome Member). o >>= λ (m : Member). given (leb 2 list) not-there (spotAt (r .header) (m .code)) >>= onward then)
+              (member-in (up-to-end f (r .header)) (plain-frame (r .header)) at (d .members) (rule .members) list k)
               ∙ by-list list d rule
 
     -- ---- its code
     code-at : (then : Spot → Outcome (Option C)) (g : Code → Outcome (Option C))
-        → ((at : ℕ) (x : Code) → CodeRule (section f (r .header)) (frame-of (r .header) 0) at x → then (record { header = r .header; place = at }) ≡ g x)
+        → ((at : ℕ) (x : Code) → CodeRule (up-to-end f (r .header)) (plain-frame (r .header)) at x → then (record { header = r .header; place = at }) ≡ g x)
         → (methodSpot f c list k >>= onward then) ≡ (code-of r c list k >>= onward g)
     unfolding _>>=_ onward
     code-at then g same = body-at then (λ (b : Body). g (b .code)) (λ at b rule. same at (b .code) (rule .code)) ∙ sym (onward-then (body-of r c list k) (λ (b : Body). answer (some (b .code))) g)
 
     -- ---- its debug information
     debug-at : (then : Spot → Outcome (Option C)) (g : Debug → Outcome (Option C))
-        → ((at : ℕ) (d : Debug) → DebugRule (section f (r .header)) (r .header .strings .count) at d → then (record { header = r .header; place = at }) ≡ g d)
+        → ((at : ℕ) (d : Debug) → DebugRule (up-to-end f (r .header)) (r .header .strings .count) at d → then (record { header = r .header; place = at }) ≡ g d)
         → (debugSpot f c list k >>= onward then) ≡ (debug-of r c list k >>= onward g)
     unfolding debugSpot debugUnder outlineAt _>>=_
     debug-at then g same =
@@ -135,9 +136,9 @@ module _ (f : List ℕ) {r : File} (reads : Reads f r) {C : Type 0} (c : ℕ) wh
         ∙ body-at (λ (s : Spot). debugUnder f s >>= onward then) (λ (b : Body). onward g (b .debug)) under
         ∙ sym (onward-then (body-of r c list k) (λ (b : Body). answer (b .debug)) g)
       where
-        under : (at : ℕ) (b : Body) → BodyRule (section f (r .header)) (frame-of (r .header) 0) at b → (debugUnder f (record { header = r .header; place = at }) >>= onward then) ≡ onward g (b .debug)
+        under : (at : ℕ) (b : Body) → BodyRule (up-to-end f (r .header)) (plain-frame (r .header)) at b → (debugUnder f (record { header = r .header; place = at }) >>= onward then) ≡ onward g (b .debug)
         under at b rule =
-            ap (λ (o : Outcome (Option Spot)). o >>= onward then) (bind-answer _ (bind-answer _ (code-exact (section f (r .header)) (frame-of (r .header) 0) at .complete (b .code) (rule .code))))
+            ap (λ (o : Outcome (Option Spot)). o >>= onward then) (bind-answer _ (bind-answer _ (code-exact (up-to-end f (r .header)) (plain-frame (r .header)) at .complete (b .code) (rule .code))))
             ∙ spotted (r .header) then g (rule .debug) (λ d q. same _ d q)
 
 -- ---- the parts of a code item that obeys its rules
@@ -150,7 +151,7 @@ module _ (s : List ℕ) (f : Frame) (at : ℕ) (x : Code) (rule : CodeRule s f a
   try-in t =
       coded _
       ∙ sym (tested-twice (ltb t (x .head .tries)) _)
-      ∙ number-part (x .tries) (x .head .tries) (rule .tries .count) t no-try (λ (a : Try). given (ltb t (x .head .tries)) 7 0 (answer (record { attempt = a; number = getD (x .links) t 0 })))
+      ∙ number-part (x .tries) (x .head .tries) (rule .tries .count) t no-try (λ (a : Try). given (ltb t (x .head .tries)) not-there (answer (record { attempt = a; number = getD (x .links) t 0 })))
       ∙ λ i. pick t (x .tries) >>= λ (a : Try). number-part (x .links) (x .head .tries) (links-counted s f at x rule) t 0 (λ (n : ℕ). answer (record { attempt = a; number = n })) i
 
   handler-in : (h : ℕ) → handlerOf s f at h ≡ (pick h (x .handlers .handlers) >>= λ (y : Handler). answer (handed y))
@@ -161,7 +162,7 @@ module _ (s : List ℕ) (f : Frame) (at : ℕ) (x : Code) (rule : CodeRule s f a
   unfolding pairOf
   pair-in h p =
       coded _
-      ∙ ap (given (ltb h (length (x .handlers .handlers))) 7 0) (number-there (getD (x .handlers .handlers) h nobody .pairs) p nothing)
+      ∙ ap (given (ltb h (length (x .handlers .handlers))) not-there) (number-there (getD (x .handlers .handlers) h nobody .pairs) p nothing)
       ∙ number-part (x .handlers .handlers) (length (x .handlers .handlers)) refl h nobody (λ (y : Handler). pick p (y .pairs))
 
 name-in : (s : List ℕ) (strings at : ℕ) (d : Debug) → DebugRule s strings at d → (p : ℕ) → nameOf s strings at p ≡ pick p (d .names)
@@ -192,7 +193,7 @@ methods-agree f {r} reads =
       member-flags = λ c list k room. ap (λ (o : Outcome (Option Member)). o >>= onward (flagsIn room)) (member c list k);
       member-content = λ c list k out. ap (λ (o : Outcome (Option Member)). contentOf o out) (member c list k);
       code = λ c list k. code-at f reads c list k (outlineUnder f) _ (λ at x q. ap there-is (coded s h at x q _));
-      units = λ c list k room. code-at f reads c list k (unitsUnder f room) _ (λ at x q. coded s h at x q _ ∙ tested (leb (length (x .units)) room) 19 (length (x .units)) (λ (n : ℕ). answer (some n)));
+      units = λ c list k room. code-at f reads c list k (unitsUnder f room) _ (λ at x q. coded s h at x q _ ∙ tested (leb (length (x .units)) room) no-room (length (x .units)) (λ (n : ℕ). answer (some n)));
       units-content = λ c list k out. left f (methodSpot f c list k) out ∙ ap (λ (o : Outcome (Option Code)). units-left o out) (code-at f reads c list k _ (λ (x : Code). answer (some x)) (λ at x q. coded s h at x q _) ∙ onward-same (code-of r c list k));
       try-item = λ c list k t. code-at f reads c list k (tryUnder f t) _ (λ at x q. ap there-is (try-in s h at x q t));
       covering-try = covering;
@@ -207,10 +208,10 @@ methods-agree f {r} reads =
     }
   where
     s : List ℕ
-    s = section f (r .header)
+    s = up-to-end f (r .header)
 
     h : Frame
-    h = frame-of (r .header) 0
+    h = plain-frame (r .header)
 
     member : (c list k : ℕ) → memberNumber f c list k ≡ member-of r c list k
     member c list k = data-at f reads c (memberUnder f list k) _ (λ at d q. ap there-is (member-in s h at (d .members) (q .members) list k))

@@ -9,12 +9,13 @@ use lib.ListN.{length}
 use lib.Dec.{leb}
 use borrow.Author.Tests.{le-leb}
 use native.Mathlib.Omega.{arith}
+use Rattle.refusal.specs.Refusals.{no-room}
 use Rattle.refusal.specs.Outcome.{Outcome, answer, _>>=_, given}
 use Rattle.refusal.specs.Exact.{Present, At, Alike}
 use Rattle.refusal.specs.Seek.{position}
 use Rattle.refusal.proofs.Laws.{bind-answer, passes}
 use Rattle.refusal.proofs.Each.{at-below, at-some}
-use Rattle.header.specs.Header.{section, frame-of}
+use Rattle.header.specs.Header.{up-to-end, plain-frame}
 use Rattle.access_flags.specs.Flags.{flags, written}
 use Rattle.class_members.specs.declared.Member.{Member}
 use Rattle.class_data.specs.Data.{listOf}
@@ -57,8 +58,8 @@ if-none-or {A} {B} o x g e = ap (λ (z : Outcome (Option A)). if-any z (λ (a : 
     go (some a) = refl
 
 -- ---- "if lent enough room"
-enough : (n room : ℕ) → n ≤ room → given (leb n room) 19 0 (answer n) ≡ answer n
-enough n room p = sym (passes 19 0 (le-leb n room p) refl)
+enough : (n room : ℕ) → n ≤ room → given (leb n room) no-room (answer n) ≡ answer n
+enough n room p = sym (passes no-room (le-leb n room p) refl)
 
 pub flags-fit : (class : Bool) (value room : ℕ) → length (flags class value) ≤ room → written class value room ≡ answer (length (flags class value))
 unfolding written
@@ -66,7 +67,7 @@ flags-fit class value room p = enough (length (flags class value)) room p
 
 -- the units of a code item, where there is room for them
 abbrev units-into : ℕ → Code → Outcome ℕ
-units-into room x = given (leb (length (x .units)) room) 19 0 (answer (length (x .units)))
+units-into room x = given (leb (length (x .units)) room) no-room (answer (length (x .units)))
 
 -- ---- of a body that may be absent: its code, its units, what is asked of its tries, its debug information
 abbrev code-of-it : Outcome (Option Body) → Outcome (Option Code)
@@ -105,14 +106,14 @@ program-in (some d) = refl
 module _ (f : List ℕ) {r : File} (reads : Reads f r) (c : ℕ) where
   module _ (list k : ℕ) where
     -- ---- below a code offset
-    module _ {b : Body} (body-is : body-of r c list k ≡ answer (some b)) {at : ℕ} (rule : BodyRule (section f (r .header)) (frame-of (r .header) 0) at b) (low : BodyIndices r b) where
+    module _ {b : Body} (body-is : body-of r c list k ≡ answer (some b)) {at : ℕ} (rule : BodyRule (up-to-end f (r .header)) (plain-frame (r .header)) at b) (low : BodyIndices r b) where
       try-answered : (t : ℕ) (a : Try) → At (b .code .tries) t a → TryAnswered f r c list k (b .code) t a
       try-answered t a m =
           let methods = methods-agree f reads in
-          let size = tries-counted (section f (r .header)) (frame-of (r .header) 0) at (b .code) (rule .code) in
-          let links = links-counted (section f (r .header)) (frame-of (r .header) 0) at (b .code) (rule .code) in
+          let size = tries-counted (up-to-end f (r .header)) (plain-frame (r .header)) at (b .code) (rule .code) in
+          let links = links-counted (up-to-end f (r .header)) (plain-frame (r .header)) at (b .code) (rule .code) in
           let l = at-some (b .code .links) t (let p = at-below m in omega arith) in
-          let h = link-leads (section f (r .header)) (frame-of (r .header) 0) at (b .code) (rule .code) m (l .1) in
+          let h = link-leads (up-to-end f (r .header)) (plain-frame (r .header)) at (b .code) (rule .code) m (l .1) in
           record {
             number = l .0;
             number-is = l .1;
@@ -143,8 +144,8 @@ module _ (f : List ℕ) {r : File} (reads : Reads f r) (c : ℕ) where
 
       code-answered : CodeAnswered f r c list k b
       code-answered =
-          let s = section f (r .header) in
-          let h = frame-of (r .header) 0 in
+          let s = up-to-end f (r .header) in
+          let h = plain-frame (r .header) in
           record {
             tries = tries-counted s h at (b .code) (rule .code);
             links = links-counted s h at (b .code) (rule .code);
@@ -154,7 +155,7 @@ module _ (f : List ℕ) {r : File} (reads : Reads f r) (c : ℕ) where
           }
 
     -- ---- a body that may be absent
-    body-answered : (at : ℕ) (o : Option Body) → body-of r c list k ≡ answer o → Present (BodyRule (section f (r .header)) (frame-of (r .header) 0) at) at o → If-there (BodyIndices r) o
+    body-answered : (at : ℕ) (o : Option Body) → body-of r c list k ≡ answer o → Present (BodyRule (up-to-end f (r .header)) (plain-frame (r .header)) at) at o → If-there (BodyIndices r) o
         → BodyAnswered f r c list k at o
     body-answered at o e rule low =
         let methods = methods-agree f reads in
@@ -191,7 +192,7 @@ module _ (f : List ℕ) {r : File} (reads : Reads f r) (c : ℕ) where
           index = own;
         }
 
-    method-of-class : (list k : ℕ) (m : Member) → At (listOf list (d .members)) k m → Alike (MethodRule (section f (r .header)) (frame-of (r .header) 0)) (listOf list (d .members)) (bodiesOf list d)
+    method-of-class : (list k : ℕ) (m : Member) → At (listOf list (d .members)) k m → Alike (MethodRule (up-to-end f (r .header)) (plain-frame (r .header))) (listOf list (d .members)) (bodiesOf list d)
         → m .index < length (r .methods) → All (If-there (BodyIndices r)) (bodiesOf list d) → MethodOfClass f r c list k (bodiesOf list d) m
     method-of-class list k m n both own low =
         let body = at-some (bodiesOf list d) k (let p = at-below n in let size = both .count in omega arith) in
@@ -202,7 +203,7 @@ module _ (f : List ℕ) {r : File} (reads : Reads f r) (c : ℕ) where
           body-answered = body-answered list k (m .code) (body .0) (body-there list k (body .1)) (both .each n (body .1)) (low k (body .0) (body .1));
         }
 
-    pub data-answered : {at : ℕ} → DataBelowRule (section f (r .header)) (frame-of (r .header) 0) at d → DataIndices r d → DataAnswered f r c d
+    pub data-answered : {at : ℕ} → DataBelowRule (up-to-end f (r .header)) (plain-frame (r .header)) at d → DataIndices r d → DataAnswered f r c d
     data-answered rule low =
         record {
           statics = each-number (d .members .statics) (λ k m n. member-answered (FieldAnswered f r) 0 k m n (field-answered f reads _ (low .statics k m n)));

@@ -9,6 +9,8 @@ use mathlib.Core.List.{List}
 use lib.ListN.{length, getD}
 use lib.Dec.{ltb}
 use native.Mathlib.Omega.{arith}
+use Rattle.refusal.specs.Refusals.{not-there}
+use Rattle.refusal.specs.declared.Refusal.{Refusal}
 use Rattle.refusal.specs.Outcome.{Outcome, answer, refused, _>>=_, given}
 use Rattle.refusal.specs.Exact.{Each, Alike}
 use Rattle.refusal.proofs.Laws.{bind-answer, bind-refused}
@@ -34,23 +36,23 @@ onward-same (answer (some a)) = refl
 onward-same (refused r) = refl
 
 -- ---- the code's test of a number, and then that item of the list
-pub tested : {A B : Type 0} (test : Bool) (n : ℕ) (a : A) (g : A → Outcome B) → given test n 0 (g a) ≡ (given test n 0 (answer a) >>= g)
+pub tested : {A B : Type 0} (test : Bool) (r : Refusal) (a : A) (g : A → Outcome B) → given test r (g a) ≡ (given test r (answer a) >>= g)
 unfolding given _>>=_
 tested true n a g = refl
 tested false n a g = refl
 
-pub tested-twice : {A : Type 0} (test : Bool) (o : Outcome A) → given test 7 0 (given test 7 0 o) ≡ given test 7 0 o
+pub tested-twice : {A : Type 0} (test : Bool) (o : Outcome A) → given test not-there (given test not-there o) ≡ given test not-there o
 unfolding given
 tested-twice true o = refl
 tested-twice false o = refl
 
-pub number-part : {A B : Type 0} (l : List A) (count : ℕ) → length l ≡ count → (k : ℕ) (d : A) (g : A → Outcome B) → given (ltb k count) 7 0 (g (getD l k d)) ≡ (pick k l >>= g)
-number-part {A} {B} l count size k d g = tested (ltb k count) 7 (getD l k d) g ∙ asked (λ (n : ℕ). answer (getD l n d)) each (λ (a : A). a) (λ n a q. ap answer q) k g g (λ a q. refl)
+pub number-part : {A B : Type 0} (l : List A) (count : ℕ) → length l ≡ count → (k : ℕ) (d : A) (g : A → Outcome B) → given (ltb k count) not-there (g (getD l k d)) ≡ (pick k l >>= g)
+number-part {A} {B} l count size k d g = tested (ltb k count) not-there (getD l k d) g ∙ asked (λ (n : ℕ). answer (getD l n d)) each (λ (a : A). a) (λ n a q. ap answer q) k g g (λ a q. refl)
   where
     each : Each (λ (n : ℕ) (a : A). getD l n d ≡ a) count l
     each = record { count = size; each = λ m. at-getD d m }
 
-pub number-there : {A : Type 0} (l : List A) (k : ℕ) (d : A) → given (ltb k (length l)) 7 0 (answer (getD l k d)) ≡ pick k l
+pub number-there : {A : Type 0} (l : List A) (k : ℕ) (d : A) → given (ltb k (length l)) not-there (answer (getD l k d)) ≡ pick k l
 number-there {A} l k d = number-part l (length l) refl k d (λ (a : A). answer a) ∙ made-same _
 
 -- ---- two lists whose items of one number go together
@@ -70,9 +72,9 @@ module _ {A B C : Type 0} {Rule : A → B → Type 0} {l : List A} {m : List B} 
           bind-refused g (pick-none l k (omega arith)) ∙ sym (bind-refused h (pick-none m k (omega arith)))
 
 -- a number of a list that is then refused all the same is 7 either way
-pub picked-refused : {A B : Type 0} (l : List A) (k : ℕ) → _≡_ {A = Outcome B} (pick k l >>= λ (a : A). refused (record { number = 7; place = 0 })) (refused (record { number = 7; place = 0 }))
+pub picked-refused : {A B : Type 0} (l : List A) (k : ℕ) → _≡_ {A = Outcome B} (pick k l >>= λ (a : A). refused not-there) (refused not-there)
 picked-refused {A} {B} l k = by (or-not (ltb k (length l)) (below k (length l)))
   where
-    by : (k < length l) ⊎ (k < length l → ⊥) → _≡_ {A = Outcome B} (pick k l >>= λ (a : A). refused (record { number = 7; place = 0 })) (refused (record { number = 7; place = 0 }))
+    by : (k < length l) ⊎ (k < length l → ⊥) → _≡_ {A = Outcome B} (pick k l >>= λ (a : A). refused not-there) (refused not-there)
     by (inl p) = bind-answer _ (pick-there (at-some l k p .1))
     by (inr p) = bind-refused _ (pick-none l k (omega arith))

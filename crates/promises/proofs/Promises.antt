@@ -6,7 +6,7 @@ use mathlib.Core.List.{List}
 use Rattle.refusal.specs.Exact.{Exact, Sought}
 use Rattle.refusal.proofs.Exact.{same, exact-iff, accepted-iff}
 use Rattle.header.specs.declared.Header.{Header}
-use Rattle.header.specs.Header.{frame-of}
+use Rattle.header.specs.Header.{plain-frame}
 use Rattle.header.proofs.Exactly.{header-same}
 use Rattle.text.specs.Text.{Text}
 use Rattle.string_ids.specs.Rules.{LookupRule}
@@ -39,7 +39,7 @@ promises f =
       accepted-exactly = accepted-iff (file-exact f);
       readings-equal = λ {r} {s} p q. same (file-exact f) r s p q;
       strings-distinct = λ {r} p m n e. bytes-distinct f (r .header) (p .strings) m n e;
-      types-distinct = λ {r} p m n. I.types-distinct f (frame-of (r .header) 0) (r .header .types .offset) (p .types) m n refl;
+      types-distinct = λ {r} p m n. I.types-distinct f (plain-frame (r .header)) (r .header .types .offset) (p .types) m n refl;
       readers-answer = λ p. readers-answer f p;
       readers-agree = λ p. record { tables = tables-agree f p; methods = methods-agree f p; annotations = annotations-agree f p; values = values-agree f p };
       lookup-exactly = λ text p. finds f p text;

@@ -8,7 +8,7 @@ use mathlib.Core.List.{List, [], _∷_}
 use lib.Dec.{eqb}
 use Rattle.refusal.specs.Outcome.{Outcome, answer, refused, _>>=_}
 use Rattle.refusal.specs.Exact.{here, there, Alike}
-use Rattle.header.specs.Header.{section, frame-of}
+use Rattle.header.specs.Header.{up-to-end, plain-frame}
 use Rattle.value_bodies.specs.Bodies.{pick}
 use Rattle.code_bodies.specs.Code.{Code}
 use Rattle.code_bodies.specs.Rules.{CodeRule}
@@ -48,18 +48,18 @@ either-all P false p q = q
 
 module _ (f : List ℕ) {r : File} (reads : Reads f r) (c : ℕ) where
   abbrev DataRuled : DataBelow → Type 0
-  DataRuled d = (at : ℕ) × DataBelowRule (section f (r .header)) (frame-of (r .header) 0) at d
+  DataRuled d = (at : ℕ) × DataBelowRule (up-to-end f (r .header)) (plain-frame (r .header)) at d
 
   abbrev BodyRuled : Body → Type 0
-  BodyRuled b = (at : ℕ) × BodyRule (section f (r .header)) (frame-of (r .header) 0) at b
+  BodyRuled b = (at : ℕ) × BodyRule (up-to-end f (r .header)) (plain-frame (r .header)) at b
 
   abbrev pub CodeRuled : Code → Type 0
-  CodeRuled x = (at : ℕ) × CodeRule (section f (r .header)) (frame-of (r .header) 0) at x
+  CodeRuled x = (at : ℕ) × CodeRule (up-to-end f (r .header)) (plain-frame (r .header)) at x
 
   data-ruled : Sure DataRuled (data-of r c)
   data-ruled = sure-pick DataRuled (r .classes) c (λ (b : ClassBelow). answer (b .members)) (λ k b m. if-present DataRuled (λ d q. (_, q)) (reads .classes .each m .members))
 
-  bodies-ruled : {l : List Member} {m : List (Option Body)} → Alike (MethodRule (section f (r .header)) (frame-of (r .header) 0)) l m → All (If-there BodyRuled) m
+  bodies-ruled : {l : List Member} {m : List (Option Body)} → Alike (MethodRule (up-to-end f (r .header)) (plain-frame (r .header))) l m → All (If-there BodyRuled) m
   bodies-ruled {l} {m} both = alike-all (If-there BodyRuled) (λ x o rule. if-present BodyRuled (λ b q. (_, q)) rule) l m both
 
   list-ruled : (list : ℕ) (d : DataBelow) → DataRuled d → All (If-there BodyRuled) (bodiesOf list d)

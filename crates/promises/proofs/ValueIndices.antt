@@ -12,7 +12,7 @@ use native.Mathlib.Omega.{arith}
 use Rattle.refusal.specs.Exact.{absent, found-there, Each, At}
 use Rattle.refusal.proofs.Exact.{both, below, at-most}
 use Rattle.refusal.proofs.Each.{at-below, at-some}
-use Rattle.header.specs.Header.{section, frame-of}
+use Rattle.header.specs.Header.{up-to-end, frame-of}
 use Rattle.value_heads.specs.declared.Walk.{Walk}
 use Rattle.value_heads.specs.Kinds.{arguments, count-of}
 use Rattle.encoded_value.specs.Tree.{Named, Annotation, Tree, byte, short, char, int, long, float, double, index, null, boolean, array, annotation, restOf, plainOf}
@@ -102,26 +102,26 @@ module _ (f : List ℕ) {r : File} (reads : Reads f r) where
   index-in : {code n : ℕ} → ValueIn r (index code n) → (0x15 ≤ code) × (code < 0x1c) × (n < rows r code)
   index-in {code} {n} i =
       let v = value-in f reads i in
-      let c = value-in-range (section f (r .header)) (walk f reads (v .item)) (v .rule) in
+      let c = value-in-range (up-to-end f (r .header)) (walk f reads (v .item)) (v .rule) in
       (c .0, c .1, subst (λ (x : ℕ). n < x) (rows-counted (v .item) code) (c .2))
 
   -- ---- the type of an annotation, and its names
   module _ {item p q : ℕ} {a : Annotation} (b : Body-there f reads item p q a) where
-    parts : AnnotationWithin (section f (r .header)) (walk f reads item) deepest-value p a q
-    parts = annotation-parts (section f (r .header)) (walk f reads item) (b .body .body) (b .body .shallow)
+    parts : AnnotationWithin (up-to-end f (r .header)) (walk f reads item) deepest-value p a q
+    parts = annotation-parts (up-to-end f (r .header)) (walk f reads item) (b .body .body) (b .body .shallow)
 
     type-there : a .type-index < length (r .types)
     type-there = subst (λ (x : ℕ). a .type-index < x) (sym (reads .types .each .count)) (parts .type-is .range)
 
     name-there : {k : ℕ} {e : Named} → At (a .elements) k e → e .name < length (r .strings)
     name-there {e = e} m =
-        let found = row-at (named-within-extent (section f (r .header)) (walk f reads item) deepest-value) (parts .row) m in
+        let found = row-at (named-within-extent (up-to-end f (r .header)) (walk f reads item) deepest-value) (parts .row) m in
         subst (λ (x : ℕ). e .name < x) (sym (reads .strings .each .count)) (found .2 .0 .name-is .range)
 
   -- ---- the entries of a directory
   entry-below : {B : Type 0} {Below : ℕ → B → Type 0} {item limit from count e : ℕ} {u : Under B} (l : List DirectoryEntry) (us : List (Under B))
-      → Fixed (section f (r .header)) (DirectoryEntryRule (section f (r .header)) (frame-of (r .header) (r .map .handles .count)) item limit) 8 from count l
-      → Each (λ (n : ℕ) (u : Under B). EntryBelow (section f (r .header)) (frame-of (r .header) (r .map .handles .count)) Below (from + 8 * n) u) count us
+      → Fixed (up-to-end f (r .header)) (DirectoryEntryRule (up-to-end f (r .header)) (frame-of (r .header) (r .map .handles .count)) item limit) 8 from count l
+      → Each (λ (n : ℕ) (u : Under B). EntryBelow (up-to-end f (r .header)) (frame-of (r .header) (r .map .handles .count)) Below (from + 8 * n) u) count us
       → At us e u → u .index < limit
   entry-below {limit = limit} {e = e} l us own below m =
       let found = at-some l e (let x = at-below m in let y = below .count in let z = own .entries .count in omega arith) in
@@ -130,7 +130,7 @@ module _ (f : List ℕ) {r : File} (reads : Reads f r) where
 
   -- of one of the three lists, where the class has a directory
   listed-below : {B : Type 0} {at e : ℕ} {o : Option Annotated} {u : Under B} (count limit : ℕ) (part : Annotated → List (Under B))
-      → ((d : Annotated) → DirectoryBelow (section f (r .header)) (frame-of (r .header) (r .map .handles .count)) at d → At (part d) e u → u .index < limit)
+      → ((d : Annotated) → DirectoryBelow (up-to-end f (r .header)) (frame-of (r .header) (r .map .handles .count)) at d → At (part d) e u → u .index < limit)
       → count ≡ limit → Directory-there f (r .header) (r .map .handles .count) at o → At (under part o) e u → u .index < count
   listed-below count limit part one same (absent z) m = absurd (let l = at-below m in omega arith)
   listed-below count limit part one same (found-there {a = d} p rule) m = let l = one d rule m in omega arith

@@ -14,7 +14,7 @@ use Rattle.refusal.specs.Exact.{Present, absent, found-there, Row, first, At, h
 use Rattle.refusal.proofs.Laws.{bind-answer, picks, leaves}
 use Rattle.refusal.proofs.Each.{at-below}
 use Rattle.frame.specs.Offsets.{Allowed, AllowedOrAbsent}
-use Rattle.header.specs.Header.{section, frame-of}
+use Rattle.header.specs.Header.{up-to-end, frame-of, plain-frame}
 use Rattle.value_heads.specs.declared.Walk.{Walk}
 use Rattle.value_heads.specs.Kinds.{walkOf}
 use Rattle.encoded_value.specs.Tree.{Named, Annotation, Tree, array, annotation, Trees, no-tree, tree, Elements, no-element, element, trees, elements-of}
@@ -77,11 +77,11 @@ module _ (f : List ℕ) {r : File} (reads : Reads f r) where
 
   -- ---- a body that stands in the data section, as an item of its own
   pub record Array-there (p q : ℕ) (vs : List Tree) : Type 0 where
-    pub body : ArrayRule (section f (r .header)) (walk p) p vs q
+    pub body : ArrayRule (up-to-end f (r .header)) (walk p) p vs q
     pub low : r .header .start ≤ p
 
   pub record Body-there (item p q : ℕ) (a : Annotation) : Type 0 where
-    pub body : AnnotationRule (section f (r .header)) (walk item) p a q
+    pub body : AnnotationRule (up-to-end f (r .header)) (walk item) p a q
     pub low : r .header .start ≤ p
 
   -- and a value in it
@@ -90,12 +90,12 @@ module _ (f : List ℕ) {r : File} (reads : Reads f r) where
     pub place : ℕ
     pub ends : ℕ
     pub low : r .header .start ≤ place
-    pub rule : Value (section f (r .header)) (walk item) place v ends
+    pub rule : Value (up-to-end f (r .header)) (walk item) place v ends
     pub shallow : depth v ≤ deepest
 
   value-of-array : {p q k : ℕ} {vs : List Tree} {v : Tree} → Array-there p q vs → At vs k v → Value-there v
   value-of-array {p} b m =
-      let s = section f (r .header) in
+      let s = up-to-end f (r .header) in
       let parts = array-parts s (walk p) (b .body .body) (b .body .shallow) in
       let found = row-at (within-extent s (walk p) deepest-value) (parts .row) m in
       let e = uleb-extent s (walk p) (parts .uleb) .after-place in
@@ -106,7 +106,7 @@ module _ (f : List ℕ) {r : File} (reads : Reads f r) where
 
   value-of-body : {item p q k : ℕ} {a : Annotation} {e : Named} → Body-there item p q a → At (a .elements) k e → Value-there (e .value)
   value-of-body {item} {p} b m =
-      let s = section f (r .header) in
+      let s = up-to-end f (r .header) in
       let parts = annotation-parts s (walk item) (b .body .body) (b .body .shallow) in
       let found = row-at (named-within-extent s (walk item) deepest-value) (parts .row) m in
       let t = uleb-extent s (walk item) (parts .type-is .uleb) .after-place in
@@ -120,33 +120,33 @@ module _ (f : List ℕ) {r : File} (reads : Reads f r) where
 
   array-of : {p q : ℕ} (vs : List Tree) → Value-there (array p q (trees vs)) → Array-there p q vs
   array-of {p} {q} vs v =
-      let i = nested-array (section f (r .header)) (walk (v .item)) (v .place) (v .ends) p q (trees vs) (v .rule) (v .shallow) in
+      let i = nested-array (up-to-end f (r .header)) (walk (v .item)) (v .place) (v .ends) p q (trees vs) (v .rule) (v .shallow) in
       let l = v .low in
       let x = i .1 .2 in
       record {
-        body = subst (λ (us : List Tree). ArrayRule (section f (r .header)) (walk p) p us q) (sym (trees-back (i .0)) ∙ ap listed-trees (i .1 .0) ∙ trees-back vs) (i .1 .1);
+        body = subst (λ (us : List Tree). ArrayRule (up-to-end f (r .header)) (walk p) p us q) (sym (trees-back (i .0)) ∙ ap listed-trees (i .1 .0) ∙ trees-back vs) (i .1 .1);
         low = omega arith;
       }
 
   pub body-of : {p q t : ℕ} (es : List Named) → Value-there (annotation p q t (elements-of es)) → Body-there p p q (record { type-index = t; elements = es })
   body-of {p} {q} {t} es v =
-      let i = nested-annotation (section f (r .header)) (walk (v .item)) (v .place) (v .ends) p q t (elements-of es) (v .rule) (v .shallow) in
+      let i = nested-annotation (up-to-end f (r .header)) (walk (v .item)) (v .place) (v .ends) p q t (elements-of es) (v .rule) (v .shallow) in
       let l = v .low in
       let x = i .1 .3 in
       let same = sym (elements-back (i .0 .elements)) ∙ ap listed-elements (i .1 .1) ∙ elements-back es in
       record {
-        body = subst (λ (a : Annotation). AnnotationRule (section f (r .header)) (walk p) p a q) (λ j. record { type-index = i .1 .0 j; elements = same j }) (i .1 .2);
+        body = subst (λ (a : Annotation). AnnotationRule (up-to-end f (r .header)) (walk p) p a q) (λ j. record { type-index = i .1 .0 j; elements = same j }) (i .1 .2);
         low = omega arith;
       }
 
   -- ---- static values
   abbrev Statics-there : ℕ → Option (List Tree) → Type 0
-  Statics-there at o = Present (ValuesRule (section f (r .header)) (walk at) at) at o
+  Statics-there at o = Present (ValuesRule (up-to-end f (r .header)) (walk at) at) at o
 
   statics-low : {n : ℕ} {c : ClassBelow} → At (r .classes) n c → 0 < c .own .values → r .header .start ≤ c .own .values
   statics-low {n} {c} m p = go (subst (λ (d : Class). AllowedOrAbsent (r .header .start) (r .header .end) false (d .values)) (own .stands) (own .rule .values))
     where
-      own : ClassRule f (frame-of (r .header) 0) (r .header .end) (r .header .classes .offset) n (c .own)
+      own : ClassRule f (plain-frame (r .header)) (r .header .end) (r .header .classes .offset) n (c .own)
       own = reads .classes .each m .own
 
       go : AllowedOrAbsent (r .header .start) (r .header .end) false (c .own .values) → r .header .start ≤ c .own .values
@@ -174,7 +174,7 @@ module _ (f : List ℕ) {r : File} (reads : Reads f r) where
   value-in (in-annotation {es = es} i m) = value-of-body (body-of es (value-in i)) m
 
   -- ---- bodies asked for by place
-  in-section : {p q : ℕ} → r .header .start ≤ p → Extent (section f (r .header)) p q → Allowed (r .header .start) (r .header .end) false p
+  in-section : {p q : ℕ} → r .header .start ≤ p → Extent (up-to-end f (r .header)) p q → Allowed (r .header .start) (r .header .end) false p
   in-section low e =
       let short = section-short f reads in
       let after-place = e .after-place in
@@ -182,11 +182,11 @@ module _ (f : List ℕ) {r : File} (reads : Reads f r) where
       record { from = low; before-end = omega arith; multiple = λ e. absurd (false≢true e) }
 
   module _ {p q : ℕ} {vs : List Tree} (b : Array-there p q vs) where
-    array-read : arrayAt (section f (r .header)) (walk p) deepest p ≡ answer (record { item = vs; next = q })
-    array-read = array-rule-exact (section f (r .header)) (walk p) p .complete (record { item = vs; next = q }) (b .body)
+    array-read : arrayAt (up-to-end f (r .header)) (walk p) deepest p ≡ answer (record { item = vs; next = q })
+    array-read = array-rule-exact (up-to-end f (r .header)) (walk p) p .complete (record { item = vs; next = q }) (b .body)
 
     array-allowed : Allowed (r .header .start) (r .header .end) false p
-    array-allowed = in-section (b .low) (array-extent (section f (r .header)) (walk p) p vs q (b .body .body))
+    array-allowed = in-section (b .low) (array-extent (up-to-end f (r .header)) (walk p) p vs q (b .body .body))
 
     array-sized : B.arrayOf f p ≡ answer (record { count = length vs; length = q - p })
     unfolding B.arrayOf B.arrayBody arrayCount
@@ -197,11 +197,11 @@ module _ (f : List ℕ) {r : File} (reads : Reads f r) where
     array-valued k = bind-answer _ (opened-within f reads array-allowed) ∙ bind-answer _ array-read
 
   module _ {p q : ℕ} {a : Annotation} (b : Body-there p p q a) where
-    body-read : annotationAt (section f (r .header)) (walk p) deepest p ≡ answer (record { item = a; next = q })
-    body-read = annotation-rule-exact (section f (r .header)) (walk p) p .complete (record { item = a; next = q }) (b .body)
+    body-read : annotationAt (up-to-end f (r .header)) (walk p) deepest p ≡ answer (record { item = a; next = q })
+    body-read = annotation-rule-exact (up-to-end f (r .header)) (walk p) p .complete (record { item = a; next = q }) (b .body)
 
     body-allowed : Allowed (r .header .start) (r .header .end) false p
-    body-allowed = in-section (b .low) (annotation-extent (section f (r .header)) (walk p) p a q (b .body .body))
+    body-allowed = in-section (b .low) (annotation-extent (up-to-end f (r .header)) (walk p) p a q (b .body .body))
 
     body-sized : B.bodyOf f p ≡ answer (record { type-index = a .type-index; count = length (a .elements); length = q - p })
     unfolding B.bodyOf B.notedBody annotationNoted
@@ -214,15 +214,15 @@ module _ (f : List ℕ) {r : File} (reads : Reads f r) where
   -- ---- static values by number
   statics-counted : {at : ℕ} {o : Option (List Tree)} → Statics-there at o → R.valuesIn f (r .header) (r .map .handles .count) at ≡ answer (length (listed o))
   unfolding R.valuesIn arrayCount
-  statics-counted {at} (absent e) = sym (leaves (arrayCount (section f (r .header)) (walk at) at) (le-ltb 0 at (omega arith)) refl)
+  statics-counted {at} (absent e) = sym (leaves (arrayCount (up-to-end f (r .header)) (walk at) at) (le-ltb 0 at (omega arith)) refl)
   statics-counted {at} (found-there {a = l} p rule) =
-      sym (picks (answer 0) (lt-ltb 0 at p) refl) ∙ bind-answer _ (array-rule-exact (section f (r .header)) (walk at) at .complete (record { item = l; next = rule .ends }) (rule .body))
+      sym (picks (answer 0) (lt-ltb 0 at p) refl) ∙ bind-answer _ (array-rule-exact (up-to-end f (r .header)) (walk at) at .complete (record { item = l; next = rule .ends }) (rule .body))
 
   statics-numbered : {at : ℕ} {o : Option (List Tree)} → Statics-there at o → (k : ℕ) → R.valueIn f (r .header) (r .map .handles .count) at k ≡ (pick k (listed o) >>= λ (v : Tree). answer (shown v))
   unfolding R.valueIn arrayValue
-  statics-numbered {at} (absent e) k = sym (leaves (arrayValue (section f (r .header)) (walk at) at k) (le-ltb 0 at (omega arith)) refl) ∙ pick-empty k _
+  statics-numbered {at} (absent e) k = sym (leaves (arrayValue (up-to-end f (r .header)) (walk at) at k) (le-ltb 0 at (omega arith)) refl) ∙ pick-empty k _
   statics-numbered {at} (found-there {a = l} p rule) k =
-      sym (picks _ (lt-ltb 0 at p) refl) ∙ bind-answer _ (array-rule-exact (section f (r .header)) (walk at) at .complete (record { item = l; next = rule .ends }) (rule .body))
+      sym (picks _ (lt-ltb 0 at p) refl) ∙ bind-answer _ (array-rule-exact (up-to-end f (r .header)) (walk at) at .complete (record { item = l; next = rule .ends }) (rule .body))
 
   top-there : {n : ℕ} {c : ClassBelow} {l : List Tree} → At (r .classes) n c → c .values ≡ some l → TopArray f r (c .own .values) l
   top-there {c = c} m e =

@@ -6,7 +6,7 @@ use mathlib.Core.List.{List}
 use lib.ListN.{length}
 use Rattle.refusal.specs.Outcome.{Outcome, answer}
 use Rattle.word.specs.Words.{u32At}
-use Rattle.header.specs.Header.{section}
+use Rattle.header.specs.Header.{up-to-end}
 use Rattle.annotation_items.specs.Items.{AnnotationItem}
 use Rattle.annotation_walk.specs.Below.{Under, Annotated}
 use Rattle.directory_readers.specs.Directories.{entryNumber}
@@ -39,7 +39,7 @@ module _ (f : List ℕ) (r : File) where
 
   -- the offset of set p in the reference list at a place
   abbrev pub set-offset : ℕ → ℕ → ℕ
-  set-offset place p = u32At (r .header .order) (section f (r .header)) (place + 4 + 4 * p)
+  set-offset place p = u32At (r .header .order) (up-to-end f (r .header)) (place + 4 + 4 * p)
 
   -- set p of a reference list: dex::parameter_annotation_count, dex::parameter_annotation_place
   pub record ParameterAnswered (c e p offset : ℕ) (o : Option (List AnnotationItem)) : Type 0 where

@@ -7,6 +7,7 @@ use mathlib.Core.Option.{Option, none, some}
 use mathlib.Core.List.{List, []}
 use lib.ListN.{length}
 use lib.Dec.{leb}
+use Rattle.refusal.specs.Refusals.{no-room}
 use Rattle.refusal.specs.Outcome.{Outcome, answer, refused, _>>=_, given}
 use Rattle.refusal.specs.Exact.{Exact, Sought}
 use Rattle.refusal.specs.Seek.{position}
@@ -82,7 +83,7 @@ pub record MethodReaders (f : List ℕ) (r : File) : Type 1 where
   pub member-content : (c list k : ℕ) (out : List ℕ) → memberContent f c list k out ≡ contentOf (member-of r c list k) out
   pub code : (c list k : ℕ) → methodCode f c list k ≡ if-any (code-of r c list k) (λ x. answer (outline x))
   -- "Instructions are handed out as 16-bit units into a lent output"
-  pub units : (c list k room : ℕ) → methodUnits f c list k room ≡ if-any (code-of r c list k) (λ x. given (leb (length (x .units)) room) 19 0 (answer (length (x .units))))
+  pub units : (c list k room : ℕ) → methodUnits f c list k room ≡ if-any (code-of r c list k) (λ x. given (leb (length (x .units)) room) no-room (answer (length (x .units))))
   pub units-content : (c list k : ℕ) (out : List ℕ) → unitsContent f c list k out ≡ units-left (code-of r c list k) out
   pub try-item : (c list k t : ℕ) → tryNumber f c list k t ≡ if-any (code-of r c list k) (try-of t)
   pub covering-try : (c list k address : ℕ) → coveringTry f c list k address ≡ (code-of r c list k >>= onward (λ (x : Code). answer (position (covers address) (x .tries))))

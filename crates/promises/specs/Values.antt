@@ -6,7 +6,7 @@ use mathlib.Core.List.{List}
 use lib.ListN.{length}
 use Rattle.refusal.specs.Outcome.{answer}
 use Rattle.refusal.specs.Exact.{At}
-use Rattle.header.specs.Header.{section, frame-of}
+use Rattle.header.specs.Header.{up-to-end, frame-of}
 use Rattle.value_heads.specs.Kinds.{walkOf}
 use Rattle.encoded_value.specs.Tree.{Named, Tree, array, annotation, trees, elements-of}
 use Rattle.encoded_value.specs.Rules.{ArrayRule}
@@ -29,7 +29,7 @@ pub data ValueIn (r : File) : Tree → Type 0 where
 -- the static values of a class as an array of the file. The reading keeps no end of theirs: it is the one that the rule of the bytes allows
 pub record TopArray (f : List ℕ) (r : File) (place : ℕ) (l : List Tree) : Type 0 where
   pub ends : ℕ
-  pub body : ArrayRule (section f (r .header)) (walkOf (frame-of (r .header) (r .map .handles .count)) place) place l ends
+  pub body : ArrayRule (up-to-end f (r .header)) (walkOf (frame-of (r .header) (r .map .handles .count)) place) place l ends
   pub size : arrayOf f place ≡ answer (record { count = length l; length = ends - place })
   pub value : (k : ℕ) → arrayValueOf f place k ≡ part-of k l (λ v. answer (shown v))
 

@@ -13,6 +13,7 @@ use native.Mathlib.Numerals.{add-one}
 use native.Mathlib.Omega.{arith}
 use mir.Syntax.{w64}
 use mir.Val.{Fits}
+use Rattle.refusal.specs.Refusals.{no-room}
 use Rattle.refusal.specs.Outcome.{Outcome, answer, refused, given}
 use Rattle.refusal.proofs.Laws.{passes, fails}
 use Rattle.word.specs.declared.Endian.{Endian}
@@ -256,7 +257,7 @@ pub ruleset accepted-laws = (middle-room, bottom-room, nine-rows, needs)
 
 -- ---- the writer's two ways
 module _ (text out : List ℕ) where
-  pub short-answer : length out < length text → refused (record { number = 19; place = 0 }) ≡ written text (length out)
+  pub short-answer : length out < length text → refused no-room ≡ written text (length out)
   unfolding written
   short-answer h = fails _ (lt-leb (length text) (length out) h)
 
@@ -270,7 +271,7 @@ module _ (text out : List ℕ) where
 module _ {text out after : List ℕ} {n : ℕ} (s : Stored text 0 out after n) where
   pub whole-answer : answer (length text) ≡ written text (length out)
   unfolding written
-  whole-answer = passes 19 0 (le-leb (length text) (length out) (let z = s .room in omega arith)) refl
+  whole-answer = passes no-room (le-leb (length text) (length out) (let z = s .room in omega arith)) refl
 
   at-front : placed text 0 out ≡ text ++ drop (length text) out
   unfolding placed
@@ -324,7 +325,7 @@ pub got-within : (text : List ℕ) (k n : ℕ) → answer n ≡ written text k �
 unfolding written given
 got-within text k n e = by-length (leb (length text) k) refl e
   where
-    by-length : (b : Bool) → leb (length text) k ≡ b → answer n ≡ given b 19 0 (answer (length text)) → n ≤ k
+    by-length : (b : Bool) → leb (length text) k ≡ b → answer n ≡ given b no-room (answer (length text)) → n ≤ k
     by-length true t q = let z = leb-true (length text) k t in let y : n ≡ length text = cc q in omega arith
     by-length false t q = let z : _≡_ {A = ℕ} 0 1 = cc q in absurd (omega arith)
 

@@ -38,16 +38,16 @@ order-line Big = record { name = ascii "endian"; value = ascii "big" }
 
 -- "accepted=1 .. classes=0"
 unfoldable pub accepted-lines : Header → List Line
-accepted-lines h =
+accepted-lines header =
     counted (ascii "accepted") 1
-    ∷ counted (ascii "version") (h .version)
-    ∷ order-line (h .order)
-    ∷ counted (ascii "strings") (h .strings .count)
-    ∷ counted (ascii "types") (h .types .count)
-    ∷ counted (ascii "protos") (h .protos .count)
-    ∷ counted (ascii "fields") (h .fields .count)
-    ∷ counted (ascii "methods") (h .methods .count)
-    ∷ counted (ascii "classes") (h .classes .count)
+    ∷ counted (ascii "version") (header .version)
+    ∷ order-line (header .order)
+    ∷ counted (ascii "strings") (header .strings .count)
+    ∷ counted (ascii "types") (header .types .count)
+    ∷ counted (ascii "protos") (header .protos .count)
+    ∷ counted (ascii "fields") (header .fields .count)
+    ∷ counted (ascii "methods") (header .methods .count)
+    ∷ counted (ascii "classes") (header .classes .count)
     ∷ []
 
 -- "A refusal gives accepted=0, refusal=N, place=N."

@@ -5,6 +5,7 @@ use mathlib.Core.Bool.{cond}
 use mathlib.Core.List.{List, _++_}
 use lib.ListN.{length, take, drop}
 use lib.Dec.{leb}
+use Rattle.refusal.specs.Refusals.{no-room}
 use Rattle.refusal.specs.Outcome.{Outcome, answer, given}
 
 -- these bytes from a place on, the others as they were
@@ -19,7 +20,7 @@ pub record Stored (text : List ℕ) (at : ℕ) (before after : List ℕ) (next :
 
 -- "19: a lent output is shorter than the whole answer"
 unfoldable pub written : List ℕ → ℕ → Outcome ℕ
-written text room = given (leb (length text) room) 19 0 (answer (length text))
+written text room = given (leb (length text) room) no-room (answer (length text))
 
 -- "Refusals change no lent byte or unit. Success writes the answer's places and no others."
 unfoldable pub content : List ℕ → List ℕ → List ℕ

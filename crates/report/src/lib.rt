@@ -159,14 +159,26 @@ fn put_members(fields: u32, methods: u32, classes: u32, out: &mut [u8], at: usiz
 }
 
 // All lines of an accepted file.
-fn put_accepted(h: Header, out: &mut [u8]) -> usize
+fn put_accepted(header: Header, out: &mut [u8]) -> usize
     requires { ⌜ 288 ≤ length (now out) ⌝ }
-    ensures { λ r. ⌜ Rows (accepted-lines h) 0 (now (out .entry)) (now (out .exit)) r ⌝ }
+    ensures { λ r. ⌜ Rows (accepted-lines header) 0 (now (out .entry)) (now (out .exit)) r ⌝ }
 {
-    let order = h.order;
-    let p = put_top(h.version, order, out);
-    let q = put_names(h.strings.count, h.types.count, h.protos.count, out, p);
-    put_members(h.fields.count, h.methods.count, h.classes.count, out, q)
+    let order = header.order;
+    let p = put_top(header.version, order, out);
+    let q = put_names(
+        header.strings.count,
+        header.types.count,
+        header.protos.count,
+        out,
+        p,
+    );
+    put_members(
+        header.fields.count,
+        header.methods.count,
+        header.classes.count,
+        out,
+        q,
+    )
 }
 
 // A whole text to a lent output: its length, or 19, writing nothing, where the output is shorter.
@@ -185,17 +197,17 @@ pub fn text_into(text: &[u8], out: &mut [u8]) -> ReportAnswer
 }
 
 // The report of an accepted file: how many bytes, or 19, writing nothing, where the output is shorter.
-pub fn accepted_into(h: Header, out: &mut [u8]) -> ReportAnswer
-    ensures answer { λ r. ⌜ report-outcome r ≡ written (lines (accepted-lines h)) (length (now (out .entry))) ⌝ }
-    ensures wrote { λ r. ⌜ now (out .exit) ≡ content (lines (accepted-lines h)) (now (out .entry)) ⌝ }
+fn accepted_into(header: Header, out: &mut [u8]) -> ReportAnswer
+    ensures answer { λ r. ⌜ report-outcome r ≡ written (lines (accepted-lines header)) (length (now (out .entry))) ⌝ }
+    ensures wrote { λ r. ⌜ now (out .exit) ≡ content (lines (accepted-lines header)) (now (out .entry)) ⌝ }
 {
     let mut room = [0u8; 288];
-    let n = put_accepted(h, &mut room);
+    let n = put_accepted(header, &mut room);
     text_into(&room[0..n], out)
 }
 
 // The report of a refusal.
-pub fn refused_into(refusal: Refusal, out: &mut [u8]) -> ReportAnswer
+fn refused_into(refusal: Refusal, out: &mut [u8]) -> ReportAnswer
     ensures answer { λ r. ⌜ report-outcome r ≡ written (lines (refused-lines refusal)) (length (now (out .entry))) ⌝ }
     ensures wrote { λ r. ⌜ now (out .exit) ≡ content (lines (refused-lines refusal)) (now (out .entry)) ⌝ }
 {

@@ -10,7 +10,7 @@ use Rattle.refusal.specs.Outcome.{Outcome, _>>=_}
 use Rattle.refusal.proofs.Laws.{said, tests, calls}
 use Rattle.frame.specs.declared.Frame.{Frame}
 use Rattle.header.specs.declared.Header.{Header}
-use Rattle.header.specs.Header.{section, frame-of}
+use Rattle.header.specs.Header.{up-to-end, frame-of}
 use Rattle.annotation_directories.specs.declared.DirectoryHead.{DirectoryHead}
 use Rattle.annotation_lists.specs.declared.WordAnswer.{WordAnswer}
 use Rattle.annotation_directories.specs.declared.DirectoryEntryAnswer.{DirectoryEntryAnswer}
@@ -40,15 +40,15 @@ module _ (f : List ℕ) {p o : Outcome Reached} (e : p ≡ o) where
   place-reached k q = q ∙ ap (λ (x : Outcome Reached). annotationPlace f x k) e
 
 -- a list that was read in the file up to the data section's end, s, against the file's counts, r
-module _ (f : List ℕ) (h : Header) (handles item : ℕ) {s : List ℕ} {r : Frame} (e : s ≡ section f h) (g : r ≡ frame-of h handles) (absent four : Bool) where
-  pub count-framed : {y : Outcome ℕ} → y ≡ offsetCount s r item absent four → y ≡ offsetCount (section f h) (frame-of h handles) item absent four
+module _ (f : List ℕ) (h : Header) (handles item : ℕ) {s : List ℕ} {r : Frame} (e : s ≡ up-to-end f h) (g : r ≡ frame-of h handles) (absent four : Bool) where
+  pub count-framed : {y : Outcome ℕ} → y ≡ offsetCount s r item absent four → y ≡ offsetCount (up-to-end f h) (frame-of h handles) item absent four
   count-framed q = q ∙ (λ i. offsetCount (e i) (g i) item absent four)
 
-  pub number-framed : (k : ℕ) {y : Outcome ℕ} → y ≡ offsetNumber s r item absent four k → y ≡ offsetNumber (section f h) (frame-of h handles) item absent four k
+  pub number-framed : (k : ℕ) {y : Outcome ℕ} → y ≡ offsetNumber s r item absent four k → y ≡ offsetNumber (up-to-end f h) (frame-of h handles) item absent four k
   number-framed k q = q ∙ (λ i. offsetNumber (e i) (g i) item absent four k)
 
   pub on-number : {B : Type 0} {x c : WordAnswer} {y : Outcome B} (n : ℕ) (k : ℕ → Outcome B) → word-outcome x ≡ offsetNumber s r item absent four n → x ≡ c → y ≡ (word-outcome c >>= k)
-      → y ≡ (offsetNumber (section f h) (frame-of h handles) item absent four n >>= k)
+      → y ≡ (offsetNumber (up-to-end f h) (frame-of h handles) item absent four n >>= k)
   on-number n k q = said word-outcome k (number-framed n q)
 
 pub ruleset laws = (on-reached, on-directory, on-entry, count-reached, place-reached, calls, needs)

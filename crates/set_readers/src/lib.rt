@@ -14,17 +14,17 @@ ghost use Rattle.set_readers.specs.Sets.{referencesIn, parameterSetCount
 ghost use Rattle.directory_readers.specs.Answers.{reached-outcome};
 
 // Where the class's set is, by the directory at a place.
-fn class_set_in(f: &[u8], h: Header, at: u32) -> ReachedAnswer
-    ensures { λ r. ⌜ reached-outcome r ≡ classSetIn (now (f .entry)) h at ⌝ }
+fn class_set_in(f: &[u8], header: Header, at: u32) -> ReachedAnswer
+    ensures { λ r. ⌜ reached-outcome r ≡ classSetIn (now (f .entry)) header at ⌝ }
 {
-    match directory_readers::head_in(f, h, at) {
+    match directory_readers::head_in(f, header, at) {
         DirectoryAnswer::Refused(r) => ReachedAnswer::Refused(r),
         DirectoryAnswer::Absent => ReachedAnswer::Got(Reached {
-            header: h,
+            header: header,
             place: 0,
         }),
         DirectoryAnswer::Got(head) => ReachedAnswer::Got(Reached {
-            header: h,
+            header: header,
             place: head.set,
         }),
     }
@@ -43,13 +43,13 @@ fn class_set(f: &[u8], c: u32) -> ReachedAnswer
 }
 
 // Where entry e of a list leads to, by the directory at a place.
-fn entry_set_in(f: &[u8], h: Header, at: u32, list: u32, e: u32) -> ReachedAnswer
-    ensures { λ r. ⌜ reached-outcome r ≡ entrySetIn (now (f .entry)) h at list e ⌝ }
+fn entry_set_in(f: &[u8], header: Header, at: u32, list: u32, e: u32) -> ReachedAnswer
+    ensures { λ r. ⌜ reached-outcome r ≡ entrySetIn (now (f .entry)) header at list e ⌝ }
 {
-    match directory_readers::entry_in(f, h, at, list, e) {
+    match directory_readers::entry_in(f, header, at, list, e) {
         DirectoryEntryAnswer::Refused(r) => ReachedAnswer::Refused(r),
         DirectoryEntryAnswer::Got { index: _, offset } => ReachedAnswer::Got(Reached {
-            header: h,
+            header: header,
             place: offset,
         }),
     }
@@ -68,17 +68,20 @@ fn entry_set(f: &[u8], c: u32, list: u32, e: u32) -> ReachedAnswer
 }
 
 // Where set p of the reference list at a place is, 0 where it is absent.
-fn parameter_set_in(f: &[u8], h: Header, at: u32, p: u32) -> ReachedAnswer
-    ensures { λ r. ⌜ reached-outcome r ≡ parameterSetIn (now (f .entry)) h at p ⌝ }
+fn parameter_set_in(f: &[u8], header: Header, at: u32, p: u32) -> ReachedAnswer
+    ensures { λ r. ⌜ reached-outcome r ≡ parameterSetIn (now (f .entry)) header at p ⌝ }
 {
     match annotation_lists::reference_offset(
-        header::section_of(f, h),
-        header::frame_of(h, 0),
+        header::up_to_end(f, header),
+        header::frame_of(header, 0),
         at as usize,
         p,
     ) {
         WordAnswer::Refused(r) => ReachedAnswer::Refused(r),
-        WordAnswer::Got(place) => ReachedAnswer::Got(Reached { header: h, place }),
+        WordAnswer::Got(place) => ReachedAnswer::Got(Reached {
+            header: header,
+            place,
+        }),
     }
 }
 
@@ -94,12 +97,12 @@ fn parameter_set(f: &[u8], c: u32, e: u32, p: u32) -> ReachedAnswer
     }
 }
 
-fn references_in(f: &[u8], h: Header, at: u32) -> WordAnswer
-    ensures { λ r. ⌜ word-outcome r ≡ referencesIn (now (f .entry)) h at ⌝ }
+fn references_in(f: &[u8], header: Header, at: u32) -> WordAnswer
+    ensures { λ r. ⌜ word-outcome r ≡ referencesIn (now (f .entry)) header at ⌝ }
 {
     annotation_lists::reference_count(
-        header::section_of(f, h),
-        header::frame_of(h, 0),
+        header::up_to_end(f, header),
+        header::frame_of(header, 0),
         at as usize,
     )
 }
@@ -118,26 +121,26 @@ pub fn parameter_set_count(f: &[u8], c: u32, e: u32) -> WordAnswer
 }
 
 // How many annotations the set at a place has, 0 where it is absent.
-fn set_count(f: &[u8], h: Header, at: u32) -> WordAnswer
-    ensures { λ r. ⌜ word-outcome r ≡ setCount (now (f .entry)) h at ⌝ }
+fn set_count(f: &[u8], header: Header, at: u32) -> WordAnswer
+    ensures { λ r. ⌜ word-outcome r ≡ setCount (now (f .entry)) header at ⌝ }
 {
     if 0 < at {
         return annotation_lists::set_count(
-            header::section_of(f, h),
-            header::frame_of(h, 0),
+            header::up_to_end(f, header),
+            header::frame_of(header, 0),
             at as usize,
         );
     }
     WordAnswer::Got(0)
 }
 
-fn set_number(f: &[u8], h: Header, at: u32, k: u32) -> WordAnswer
-    ensures { λ r. ⌜ word-outcome r ≡ setNumber (now (f .entry)) h at k ⌝ }
+fn set_number(f: &[u8], header: Header, at: u32, k: u32) -> WordAnswer
+    ensures { λ r. ⌜ word-outcome r ≡ setNumber (now (f .entry)) header at k ⌝ }
 {
     if 0 < at {
         return annotation_lists::set_offset(
-            header::section_of(f, h),
-            header::frame_of(h, 0),
+            header::up_to_end(f, header),
+            header::frame_of(header, 0),
             at as usize,
             k,
         );

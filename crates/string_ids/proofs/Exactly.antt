@@ -5,6 +5,7 @@ use mathlib.Core.Path.{_≡_, refl, sym, subst, _∙_}
 use mathlib.Core.Bool.{false}
 use mathlib.Core.Option.{Option}
 use mathlib.Core.List.{List}
+use Rattle.refusal.specs.Refusals.{out-of-order, wrong-offset}
 use Rattle.refusal.specs.Exact.{Exact, At, Rising, Strict, Sought}
 use Rattle.refusal.specs.Seek.{position}
 use Rattle.refusal.proofs.Exact.{same, answer-exact, given-exact, bind-exact, exact-iff}
@@ -12,7 +13,7 @@ use Rattle.refusal.proofs.Each.{in-turn-exact, rising-apart}
 use Rattle.refusal.proofs.Seek.{position-sought, sought-same}
 use Rattle.word.specs.Words.{u32At}
 use Rattle.header.specs.declared.Header.{Header}
-use Rattle.header.specs.Header.{section}
+use Rattle.header.specs.Header.{up-to-end}
 use Rattle.frame.specs.Offsets.{Allowed}
 use Rattle.frame.proofs.Laws.{allowed-decides}
 use Rattle.text.specs.Text.{Text}
@@ -25,12 +26,12 @@ use Rattle.string_ids.specs.Rules.{StringAt, Precedes, StringsRule, Look
 
 record-exact : (f : List ℕ) (h : Header) (n : ℕ) → Exact (recordAt f h n) (λ (p : ℕ). Allowed (h .start) (h .end) false (u32At (h .order) f (stringPlace h n)) × (u32At (h .order) f (stringPlace h n) ≡ p))
 unfolding recordAt recordOf
-record-exact f h n = given-exact 8 (stringPlace h n) (allowed-decides (h .start) (h .end) false (u32At (h .order) f (stringPlace h n))) (answer-exact _)
+record-exact f h n = given-exact (wrong-offset (stringPlace h n)) (allowed-decides (h .start) (h .end) false (u32At (h .order) f (stringPlace h n))) (answer-exact _)
 
 pub string-of-exact : (f : List ℕ) (h : Header) (n : ℕ) → Exact (stringOf f h n) (StringAt f h n)
 unfolding stringOf
 string-of-exact f h n =
-    exact-iff (bind-exact _ _ (record-exact f h n) (string-exact (section f h)))
+    exact-iff (bind-exact _ _ (record-exact f h n) (string-exact (up-to-end f h)))
     (λ t p. record { item = p .0; offset = p .1 .0 .1; allowed = subst (Allowed (h .start) (h .end) false) (p .1 .0 .1) (p .1 .0 .0); text = p .1 .1 })
     (λ t p. (p .item, ((subst (Allowed (h .start) (h .end) false) (sym (p .offset)) (p .allowed), p .offset), p .text)))
 
@@ -40,7 +41,7 @@ string-of-same f h n = same (string-of-exact f h n)
 pub strings-exact : (f : List ℕ) (h : Header) → Exact (stringsAt f h) (StringsRule f h)
 unfolding stringsAt
 strings-exact f h =
-    exact-iff (in-turn-exact (StringAt f h) Precedes (stringOf f h) before 15 (stringPlace h) (string-of-exact f h) (λ b a. before-decides (b .units) (a .units)) (h .strings .count))
+    exact-iff (in-turn-exact (StringAt f h) Precedes (stringOf f h) before (λ (n : ℕ). out-of-order (stringPlace h n)) (string-of-exact f h) (λ b a. before-decides (b .units) (a .units)) (h .strings .count))
     (λ l p. record { each = p .0; order = p .1 })
     (λ l p. (p .each, p .order))
 

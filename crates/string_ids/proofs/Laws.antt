@@ -10,6 +10,7 @@ use borrow.Author.Needs.{needs}
 use native.Mathlib.Omega.{arith}
 use mir.Syntax.{w32}
 use mir.Val.{Fits}
+use Rattle.refusal.specs.Refusals.{out-of-order, wrong-offset}
 use Rattle.refusal.specs.declared.Refusal.{Refusal}
 use Rattle.refusal.specs.Outcome.{Outcome, answer, refused, _>>=_, given, accepted}
 use Rattle.refusal.specs.Rows.{Found, Turn, follows, turn, first-turn, in-turn}
@@ -23,7 +24,7 @@ use Rattle.refusal.proofs.Seek.{position-more}
 use Rattle.word.specs.Bytes.{part}
 use Rattle.word.specs.Words.{u32At}
 use Rattle.header.specs.declared.Header.{Header}
-use Rattle.header.specs.Header.{section}
+use Rattle.header.specs.Header.{up-to-end}
 use Rattle.text.specs.Text.{Text, stringAt, Extent, extent, extentAt}
 use Rattle.text_order.specs.Order.{compared, byKey, isLess, isEqual}
 use Rattle.text.specs.Answers.{text-outcome}
@@ -46,32 +47,32 @@ unfolding recordAt
 record-by f h n {place} {v} {y} p e q = subst (λ (x : ℕ). y ≡ recordOf h n x) (e ∙ ap (u32At (h .order) f) p) q
 
 -- the refusal at a place that a function answered, p
-pub record-fails : (h : Header) (n v : ℕ) {place : ℕ} → place ≡ stringPlace h n → refused (record { number = 8; place = stringPlace h n }) ≡ recordOf h n v → refused (record { number = 8; place = place }) ≡ recordOf h n v
-record-fails h n v e q = ap (λ (x : ℕ). refused (record { number = 8; place = x })) e ∙ q
+pub record-fails : (h : Header) (n v : ℕ) {place : ℕ} → place ≡ stringPlace h n → refused (wrong-offset (stringPlace h n)) ≡ recordOf h n v → refused (wrong-offset place) ≡ recordOf h n v
+record-fails h n v e q = ap (λ (x : ℕ). refused (wrong-offset x)) e ∙ q
 
 pub on-item : {B : Type 0} {x c : ItemPlaceAnswer} {o : Outcome ℕ} {y : Outcome B} (k : ℕ → Outcome B) → item-outcome x ≡ o → x ≡ c → y ≡ (item-outcome c >>= k) → y ≡ (o >>= k)
 on-item = said item-outcome
 
 -- the code's order of doing it: the extent of the text of the record's item
-pub string-by : (f : List ℕ) (h : Header) (n : ℕ) {y : Outcome Extent} → y ≡ (recordAt f h n >>= extentAt (section f h)) → y ≡ stringExtent f h n
+pub string-by : (f : List ℕ) (h : Header) (n : ℕ) {y : Outcome Extent} → y ≡ (recordAt f h n >>= extentAt (up-to-end f h)) → y ≡ stringExtent f h n
 unfolding stringExtent stringOf extentAt
-string-by f h n e = e ∙ sym (bind-assoc (recordAt f h n) (stringAt (section f h)) extent)
+string-by f h n e = e ∙ sym (bind-assoc (recordAt f h n) (stringAt (up-to-end f h)) extent)
 
-pub extent-of : (f : List ℕ) (h : Header) (item : ℕ) {s : List ℕ} {y : Outcome Extent} → s ≡ section f h → y ≡ extentAt s item → y ≡ extentAt (section f h) item
+pub extent-of : (f : List ℕ) (h : Header) (item : ℕ) {s : List ℕ} {y : Outcome Extent} → s ≡ up-to-end f h → y ≡ extentAt s item → y ≡ extentAt (up-to-end f h) item
 extent-of f h item e q = q ∙ ap (λ (x : List ℕ). extentAt x item) e
 
 -- where the text of string n lies
 record Told (f : List ℕ) (h : Header) (n p m u : ℕ) : Type 0 where
   item : ℕ
-  lies : Lies (section f h) item p m u
+  lies : Lies (up-to-end f h) item p m u
   read : stringOf f h n ≡ answer (lies .text)
 
 told : (f : List ℕ) (h : Header) (n : ℕ) {x : TextAnswer} {p m u : ℕ} → text-outcome x ≡ stringExtent f h n → x ≡ T.Got p m u → Told f h n p m u
 unfolding stringExtent stringOf extentAt _>>=_
-told f h n {x} {p} {m} {u} e t = go (recordAt f h n) refl (e ∙ bind-assoc (recordAt f h n) (stringAt (section f h)) extent)
+told f h n {x} {p} {m} {u} e t = go (recordAt f h n) refl (e ∙ bind-assoc (recordAt f h n) (stringAt (up-to-end f h)) extent)
   where
-    go : (o : Outcome ℕ) → recordAt f h n ≡ o → text-outcome x ≡ (o >>= λ (i : ℕ). stringAt (section f h) i >>= extent) → Told f h n p m u
-    go (answer i) r q = let l = text-lies (section f h) i q t in record { item = i; lies = l; read = bind-answer (stringAt (section f h)) r ∙ l .read }
+    go : (o : Outcome ℕ) → recordAt f h n ≡ o → text-outcome x ≡ (o >>= λ (i : ℕ). stringAt (up-to-end f h) i >>= extent) → Told f h n p m u
+    go (answer i) r q = let l = text-lies (up-to-end f h) i q t in record { item = i; lies = l; read = bind-answer (stringAt (up-to-end f h)) r ∙ l .read }
     go (refused r) k q = absurd (never (sym q ∙ ap text-outcome t))
 
 untold : (f : List ℕ) (h : Header) (n : ℕ) {x : TextAnswer} {r : Refusal} → text-outcome x ≡ stringExtent f h n → x ≡ T.Refused r → refused r ≡ stringOf f h n
@@ -111,19 +112,19 @@ LastIs s (some t) (After p n) = (i : ℕ) × ((u : ℕ) × ((l : Lies s i p n u)
 record Kept (f : List ℕ) (h : Header) (text : List ℕ) (k : ℕ) (last : Last) (found : F.FoundString) (l : List Text) (t : Turn Text) : Type 0 where
   number-is : t .number ≡ k
   length-is : length l ≡ k
-  last-is : LastIs (section f h) (t .last) last
+  last-is : LastIs (up-to-end f h) (t .last) last
   found-is : found-number found ≡ position (is text) l
 
 abbrev stepOf : List ℕ → Header → Turn Text → Outcome (Found Text (Turn Text))
-stepOf f h = turn (stringOf f h) before 15 (stringPlace h)
+stepOf f h = turn (stringOf f h) before (λ (n : ℕ). out-of-order (stringPlace h n))
 
 pub record Looking (f : List ℕ) (h : Header) (text s : List ℕ) (left k : ℕ) (last : Last) (found : F.FoundString) : Type 0 where
-  section-is : s ≡ section f h
+  section-is : s ≡ up-to-end f h
   collecting : Collecting (stepOf f h) (h .strings .count) first-turn (Kept f h text k last found) left
   sum : k + left ≡ h .strings .count
   fits : Fits w32 (h .strings .count)
 
-pub looking-first : (f : List ℕ) (h : Header) (text : List ℕ) {s : List ℕ} → s ≡ section f h → Fits w32 (h .strings .count) → Looking f h text s (h .strings .count) 0 Start F.the-variants.Absent
+pub looking-first : (f : List ℕ) (h : Header) (text : List ℕ) {s : List ℕ} → s ≡ up-to-end f h → Fits w32 (h .strings .count) → Looking f h text s (h .strings .count) 0 Start F.the-variants.Absent
 unfolding position
 looking-first f h text e fits = record {
   section-is = e;
@@ -148,11 +149,11 @@ same-order (some t) (After q n) w l =
 
 -- the step that string k is, before its order is judged
 stepped : (f : List ℕ) (h : Header) {k p m u : ℕ} (d : Told f h k p m u) (t : Turn Text) → t .number ≡ k
-    → stepOf f h t ≡ given (follows before (t .last) (d .lies .text)) 15 (stringPlace h k) (answer (record { item = d .lies .text; next = record { number = k + 1; last = some (d .lies .text) } }))
+    → stepOf f h t ≡ given (follows before (t .last) (d .lies .text)) (out-of-order (stringPlace h k)) (answer (record { item = d .lies .text; next = record { number = k + 1; last = some (d .lies .text) } }))
 unfolding turn
 stepped f h {k} d t q =
     bind-answer _ (ap (stringOf f h) q ∙ d .read)
-    ∙ (λ i. given (follows before (t .last) (d .lies .text)) 15 (stringPlace h (q i)) (answer (record { item = d .lies .text; next = record { number = q i + 1; last = some (d .lies .text) } })))
+    ∙ (λ i. given (follows before (t .last) (d .lies .text)) (out-of-order (stringPlace h (q i))) (answer (record { item = d .lies .text; next = record { number = q i + 1; last = some (d .lies .text) } })))
 
 module _ {f : List ℕ} {h : Header} {text s : List ℕ} {left k : ℕ} {last : Last} {found : F.FoundString} (w : Looking f h text s left k last found) {x : TextAnswer}
     (l : 0 < left) (e : text-outcome x ≡ stringExtent f h k) where
@@ -170,10 +171,10 @@ module _ {f : List ℕ} {h : Header} {text s : List ℕ} {left k : ℕ} {last : 
         same-order (q .last) last (kept .last-is) (d .lies)
         ∙ ap (λ (y : List ℕ). follows lessBytes (last-bytes y last) (part y p m)) (sym (w .section-is)) ∙ sym asked
 
-    pub looking-fail : {place : ℕ} → b ≡ false → place ≡ stringPlace h k → refused (record { number = 15; place = place }) ≡ lookedUp f h text
+    pub looking-fail : {place : ℕ} → b ≡ false → place ≡ stringPlace h k → refused (out-of-order place) ≡ lookedUp f h text
     unfolding lookedUp stringsAt in-turn
     looking-fail false-is at =
-        ap (λ (y : ℕ). refused (record { number = 15; place = y })) at
+        ap (λ (y : ℕ). refused (out-of-order y)) at
         ∙ sym (bind-refused _ (bind-refused _ (sym (collecting-stop (w .collecting) l λ a q kept. fails _ (ordered q a kept ∙ false-is) ∙ sym (stepped f h d q (kept .number-is))))))
 
     pub looking-next : {g : F.FoundString} {y : List ℕ} → b ≡ true → y ≡ part s p m → found-number g ≡ or-this (found-number found) (isEqual (byKey y text)) k
@@ -183,7 +184,7 @@ module _ {f : List ℕ} {h : Header} {text s : List ℕ} {left k : ℕ} {last : 
       collecting = collecting-next (w .collecting) (Kept f h text (k + 1) (After p m) g) l λ a q kept. record {
         item = d .lies .text;
         next = record { number = k + 1; last = some (d .lies .text) };
-        found = passes 15 (stringPlace h k) (ordered q a kept ∙ true-is) refl ∙ sym (stepped f h d q (kept .number-is));
+        found = passes (out-of-order (stringPlace h k)) (ordered q a kept ∙ true-is) refl ∙ sym (stepped f h d q (kept .number-is));
         keep = record {
           number-is = refl;
           length-is = length-append a (d .lies .text ∷ []) ∙ (let z = kept .length-is in omega arith);
@@ -228,7 +229,7 @@ unchecked : (f : List ℕ) (h : Header) {r : Refusal} → refused r ≡ lookedUp
 unfolding lookedUp
 unchecked f h e = sym (bind-refused accepted (part-refused (position (is [])) (stringsAt f h) (sym e)))
 
-pub checking-first : (f : List ℕ) (h : Header) {s : List ℕ} → s ≡ section f h → Fits w32 (h .strings .count) → Checking f h s (h .strings .count) 0 Start
+pub checking-first : (f : List ℕ) (h : Header) {s : List ℕ} → s ≡ up-to-end f h → Fits w32 (h .strings .count) → Checking f h s (h .strings .count) 0 Start
 checking-first f h e fits = record { found = F.the-variants.Absent; looking = looking-first f h [] e fits }
 
 pub checking-fits : {f : List ℕ} {h : Header} {s : List ℕ} {left k : ℕ} {last : Last} → Checking f h s left k last → 0 < left → Fits w32 (k + 1)
@@ -239,7 +240,7 @@ module _ {f : List ℕ} {h : Header} {s : List ℕ} {left k : ℕ} {last : Last}
   checking-stop t = unchecked f h (looking-stop (w .looking) l e t)
 
   module _ {p m u : ℕ} (t : x ≡ T.Got p m u) {b : Bool} (asked : b ≡ follows lessBytes (last-bytes s last) (part s p m)) where
-    pub checking-fail : {place : ℕ} → b ≡ false → place ≡ stringPlace h k → refused (record { number = 15; place = place }) ≡ stringsChecked f h
+    pub checking-fail : {place : ℕ} → b ≡ false → place ≡ stringPlace h k → refused (out-of-order place) ≡ stringsChecked f h
     checking-fail false-is at = unchecked f h (looking-fail (w .looking) l e t asked false-is at)
 
     pub checking-next : b ≡ true → Checking f h s (left - 1) (k + 1) (After p m)

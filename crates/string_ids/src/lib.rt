@@ -38,33 +38,33 @@ pub enum LookupAnswer {
 }
 
 // Where the record of string n is.
-pub fn place_of(h: Header, n: u32) -> usize
-    ensures { λ r. ⌜ r ≡ stringPlace h n ⌝ }
+pub fn place_of(header: Header, n: u32) -> usize
+    ensures { λ r. ⌜ r ≡ stringPlace header n ⌝ }
 {
-    let strings = h.strings;
+    let strings = header.strings;
     strings.offset as usize + 4 * n as usize
 }
 
 // Where the item of string n is: 8 at the record.
-fn record_at(f: &[u8], h: Header, n: u32) -> ItemPlaceAnswer
-    ensures { λ r. ⌜ item-outcome r ≡ recordAt (now (f .entry)) h n ⌝ }
+fn record_at(f: &[u8], header: Header, n: u32) -> ItemPlaceAnswer
+    ensures { λ r. ⌜ item-outcome r ≡ recordAt (now (f .entry)) header n ⌝ }
 {
-    let order = h.order;
-    let place = place_of(h, n);
+    let order = header.order;
+    let place = place_of(header, n);
     let offset = word::u32_at(f, place, order) as usize;
-    if frame::is_allowed(h.start, h.end, false, offset) {
+    if frame::is_allowed(header.start, header.end, false, offset) {
         return ItemPlaceAnswer::At(offset);
     }
     ItemPlaceAnswer::Refused(Refusal { number: 8, place })
 }
 
 // String n: its record, then its item.
-pub fn string_at(f: &[u8], h: Header, n: u32) -> TextAnswer
-    ensures { λ r. ⌜ text-outcome r ≡ stringExtent (now (f .entry)) h n ⌝ }
+pub fn string_at(f: &[u8], header: Header, n: u32) -> TextAnswer
+    ensures { λ r. ⌜ text-outcome r ≡ stringExtent (now (f .entry)) header n ⌝ }
 {
-    match record_at(f, h, n) {
+    match record_at(f, header, n) {
         ItemPlaceAnswer::Refused(r) => TextAnswer::Refused(r),
-        ItemPlaceAnswer::At(item) => text::string_at(header::section_of(f, h), item),
+        ItemPlaceAnswer::At(item) => text::string_at(header::up_to_end(f, header), item),
     }
 }
 
@@ -100,16 +100,16 @@ fn found_with(found: FoundString, bytes: &[u8], text: &[u8], k: u32) -> FoundStr
 }
 
 // All strings in turn, each by its own rules and then by its order.
-pub fn check_strings(f: &[u8], h: Header) -> CheckAnswer
-    ensures { λ r. ⌜ checked-outcome r ≡ stringsChecked (now (f .entry)) h ⌝ }
+pub fn check_strings(f: &[u8], header: Header) -> CheckAnswer
+    ensures { λ r. ⌜ checked-outcome r ≡ stringsChecked (now (f .entry)) header ⌝ }
 {
-    let s = header::section_of(f, h);
-    let strings = h.strings;
+    let s = header::up_to_end(f, header);
+    let strings = header.strings;
     let mut last = Last::Start;
     let mut n: u32 = 0;
     let mut more = strings.count;
     while 0 < more {
-        match string_at(f, h, n) {
+        match string_at(f, header, n) {
             TextAnswer::Refused(r) => {
                 return CheckAnswer::Refused(r);
             }
@@ -123,7 +123,7 @@ pub fn check_strings(f: &[u8], h: Header) -> CheckAnswer
                 } else {
                     return CheckAnswer::Refused(Refusal {
                         number: 15,
-                        place: place_of(h, n),
+                        place: place_of(header, n),
                     });
                 }
             }
@@ -135,17 +135,17 @@ pub fn check_strings(f: &[u8], h: Header) -> CheckAnswer
 }
 
 // The same going over, with the number of the string that is the text: one pass.
-pub fn look_up(f: &[u8], h: Header, text: &[u8]) -> LookupAnswer
-    ensures { λ r. ⌜ lookup-outcome r ≡ lookedUp (now (f .entry)) h (now (text .entry)) ⌝ }
+pub fn look_up(f: &[u8], header: Header, text: &[u8]) -> LookupAnswer
+    ensures { λ r. ⌜ lookup-outcome r ≡ lookedUp (now (f .entry)) header (now (text .entry)) ⌝ }
 {
-    let s = header::section_of(f, h);
-    let strings = h.strings;
+    let s = header::up_to_end(f, header);
+    let strings = header.strings;
     let mut last = Last::Start;
     let mut found = FoundString::Absent;
     let mut k: u32 = 0;
     let mut left = strings.count;
     while 0 < left {
-        match string_at(f, h, k) {
+        match string_at(f, header, k) {
             TextAnswer::Refused(r) => {
                 return LookupAnswer::Refused(r);
             }
@@ -160,7 +160,7 @@ pub fn look_up(f: &[u8], h: Header, text: &[u8]) -> LookupAnswer
                 } else {
                     return LookupAnswer::Refused(Refusal {
                         number: 15,
-                        place: place_of(h, k),
+                        place: place_of(header, k),
                     });
                 }
             }

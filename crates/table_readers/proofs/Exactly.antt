@@ -4,6 +4,7 @@ use Prim.Native.Nat.{ℕ}
 use mathlib.Core.Path.{_≡_}
 use mathlib.Core.Option.{Option}
 use mathlib.Core.List.{List}
+use Rattle.refusal.specs.Refusals.{not-there}
 use Rattle.refusal.specs.Exact.{Exact}
 use Rattle.refusal.proofs.Exact.{same, given-exact, bind-exact, exact-iff, below}
 use Rattle.header.proofs.Exactly.{header-exact}
@@ -14,7 +15,7 @@ use Rattle.table_readers.specs.Rules.{StringNumber, FindStringRule}
 pub string-number-exact : (f : List ℕ) (n : ℕ) → Exact (stringNumber f n) (StringNumber f n)
 unfolding stringNumber
 string-number-exact f n =
-    exact-iff (bind-exact _ _ (header-exact f) (λ h. given-exact 7 0 (below n (h .strings .count)) (string-of-exact f h n)))
+    exact-iff (bind-exact _ _ (header-exact f) (λ h. given-exact not-there (below n (h .strings .count)) (string-of-exact f h n)))
     (λ t p. record { header = p .0; header-rule = p .1 .0; below-count = p .1 .1 .0; string = p .1 .1 .1 })
     (λ t p. (p .header, (p .header-rule, (p .below-count, p .string))))
 

@@ -10,6 +10,7 @@ use lib.Seq.{getD-take}
 use borrow.Author.Needs.{needs}
 use native.Mathlib.Omega.{arith}
 use native.Mathlib.Nat.{min-le-left, min-le-right}
+use Rattle.refusal.specs.Refusals.{not-there}
 use Rattle.refusal.specs.declared.Refusal.{Refusal}
 use Rattle.refusal.specs.Outcome.{Outcome, answer, refused, _>>=_, given}
 use Rattle.refusal.proofs.Laws.{tests}
@@ -18,7 +19,7 @@ use Rattle.refusal.proofs.Rows.{bind-assoc}
 use Rattle.word.specs.Bytes.{stretch, part}
 use Rattle.word.proofs.Laws.{part-whole}
 use Rattle.header.specs.declared.Header.{Header}
-use Rattle.header.specs.Header.{headerAt, section}
+use Rattle.header.specs.Header.{headerAt, up-to-end}
 use Rattle.header.proofs.Laws.{laws as header-laws}
 use Rattle.text.specs.Text.{Text, Extent, extent}
 use Rattle.text.specs.Answers.{text-outcome}
@@ -34,7 +35,7 @@ pub extent-by : (f : List ℕ) (n : ℕ) {y : Outcome Extent} → y ≡ (headerA
 unfolding stringExtentOf stringNumber stringIn stringExtent given _>>=_
 extent-by f n e = e ∙ sym (bind-assoc (headerAt f) _ extent ∙ (λ i. headerAt f >>= λ (h : Header). under h (ltb n (h .strings .count)) i))
   where
-    under : (h : Header) (b : Bool) → (given b 7 0 (stringOf f h n) >>= extent) ≡ given b 7 0 (stringOf f h n >>= extent)
+    under : (h : Header) (b : Bool) → (given b not-there (stringOf f h n) >>= extent) ≡ given b not-there (stringOf f h n >>= extent)
     under h true = refl
     under h false = refl
 
@@ -46,7 +47,7 @@ stretch-take f e p (suc n) h = λ i. getD-take e f p 0 (omega arith) i ∷ stret
 
 -- where the text of string n lies in the file
 lies-in : (f : List ℕ) (n : ℕ) {t : Text} → StringNumber f n t → part f (t .start) (length (t .bytes)) ≡ t .bytes
-unfolding section
+unfolding up-to-end
 lies-in f n {t} r =
     let stands = r .string .text .stands in
     let ends = stands .ends in

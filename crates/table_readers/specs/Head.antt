@@ -2,6 +2,7 @@
 use Prim.Native.Nat.{ℕ}
 use mathlib.Core.List.{List, []}
 use lib.Dec.{ltb}
+use Rattle.refusal.specs.Refusals.{not-there}
 use Rattle.refusal.specs.Outcome.{Outcome, answer, refused, _>>=_, given}
 use Rattle.word.specs.Bytes.{stretch}
 use Rattle.header.specs.declared.Header.{Header}
@@ -26,9 +27,9 @@ mapCount f = do
 
 -- "7: the caller asks for a number that is not there"
 unfoldable pub mapEntryIn : List ℕ → ℕ → Header → Outcome MapEntry
-mapEntryIn f k h = do
-  m ← keptAt f h
-  given (ltb k (m .count)) 7 0 (answer (entryNumber f h k))
+mapEntryIn f k header = do
+  m ← keptAt f header
+  given (ltb k (m .count)) not-there (answer (entryNumber f header k))
 
 unfoldable pub mapEntry : List ℕ → ℕ → Outcome MapEntry
 mapEntry f k = headerAt f >>= mapEntryIn f k
@@ -41,9 +42,9 @@ handleCount f = do
 
 -- the header, and how many method handles the map gives
 unfoldable pub mappedAt : List ℕ → Header → Outcome Opened
-mappedAt f h = do
-  m ← keptAt f h
-  answer (record { header = h; handles = m .handles .count })
+mappedAt f header = do
+  m ← keptAt f header
+  answer (record { header = header; handles = m .handles .count })
 
 unfoldable pub openedAt : List ℕ → Outcome Opened
 openedAt f = headerAt f >>= mappedAt f

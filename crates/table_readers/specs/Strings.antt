@@ -3,6 +3,7 @@ use Prim.Native.Nat.{ℕ}
 use mathlib.Core.Option.{Option}
 use mathlib.Core.List.{List, []}
 use lib.Dec.{ltb}
+use Rattle.refusal.specs.Refusals.{not-there}
 use Rattle.refusal.specs.Outcome.{Outcome, answer, refused, _>>=_, given}
 use Rattle.header.specs.declared.Header.{Header}
 use Rattle.header.specs.Header.{headerAt}
@@ -13,7 +14,7 @@ use Rattle.string_ids.specs.Strings.{stringOf, stringExtent, lookedUp}
 unfoldable pub stringNumber : List ℕ → ℕ → Outcome Text
 stringNumber f n = do
   h ← headerAt f
-  given (ltb n (h .strings .count)) 7 0 (stringOf f h n)
+  given (ltb n (h .strings .count)) not-there (stringOf f h n)
 
 -- "The reader hands back the text's bytes, without the zero, as a part of the file": none where it is refused
 unfoldable pub bytesOf : Outcome Text → List ℕ
@@ -30,4 +31,4 @@ unfoldable pub stringExtentOf : List ℕ → ℕ → Outcome Extent
 stringExtentOf f n = stringNumber f n >>= extent
 
 unfoldable pub stringIn : List ℕ → ℕ → Header → Outcome Extent
-stringIn f n h = given (ltb n (h .strings .count)) 7 0 (stringExtent f h n)
+stringIn f n header = given (ltb n (header .strings .count)) not-there (stringExtent f header n)

@@ -51,15 +51,15 @@ pub fn map_entry(f: &[u8], k: u32) -> MapEntryAnswer
     }
 }
 
-fn map_entry_in(f: &[u8], h: Header, k: u32) -> MapEntryAnswer
-    ensures { λ r. ⌜ entry-outcome r ≡ mapEntryIn (now (f .entry)) k h ⌝ }
+fn map_entry_in(f: &[u8], header: Header, k: u32) -> MapEntryAnswer
+    ensures { λ r. ⌜ entry-outcome r ≡ mapEntryIn (now (f .entry)) k header ⌝ }
 {
-    match map_list::map_of(f, h) {
+    match map_list::map_of(f, header) {
         MapAnswer::Refused(r) => MapEntryAnswer::Refused(r),
         MapAnswer::Got(m) => {
             let count = m.count;
             if k < count {
-                return MapEntryAnswer::Got(map_list::entry_number(f, h, k));
+                return MapEntryAnswer::Got(map_list::entry_number(f, header, k));
             }
             MapEntryAnswer::Refused(Refusal {
                 number: 7,
@@ -84,15 +84,15 @@ pub fn handle_count(f: &[u8]) -> CountAnswer
     }
 }
 
-fn mapped(f: &[u8], h: Header) -> OpenedAnswer
-    ensures { λ r. ⌜ opened-outcome r ≡ mappedAt (now (f .entry)) h ⌝ }
+fn mapped(f: &[u8], header: Header) -> OpenedAnswer
+    ensures { λ r. ⌜ opened-outcome r ≡ mappedAt (now (f .entry)) header ⌝ }
 {
-    match map_list::map_of(f, h) {
+    match map_list::map_of(f, header) {
         MapAnswer::Refused(r) => OpenedAnswer::Refused(r),
         MapAnswer::Got(m) => {
             let t = m.handles;
             OpenedAnswer::Got(Opened {
-                header: h,
+                header: header,
                 handles: t.count,
             })
         }

@@ -12,14 +12,14 @@ ghost use Rattle.type_list.specs.Answers.{count-outcome, type-outcome};
 ghost use Rattle.table_readers.specs.Lists.{listType, parametersIn, parameterCount, parameterIn, parameter, interfacesIn, interfaceCount, interfaceIn, interface};
 
 // Type k of the list at an offset.
-fn list_type(f: &[u8], h: Header, at: u32, k: u32) -> TypeAnswer
-    ensures { λ r. ⌜ type-outcome r ≡ listType (now (f .entry)) h at k ⌝ }
+fn list_type(f: &[u8], header: Header, at: u32, k: u32) -> TypeAnswer
+    ensures { λ r. ⌜ type-outcome r ≡ listType (now (f .entry)) header at k ⌝ }
 {
-    let order = h.order;
-    let types = h.types;
+    let order = header.order;
+    let types = header.types;
     if 0 < at {
         return type_list::type_at(
-            header::section_of(f, h),
+            header::up_to_end(f, header),
             TypeListJudge {
                 order,
                 types: types.count,
@@ -44,12 +44,12 @@ pub fn parameter_count(f: &[u8], n: u32) -> TypeCountAnswer
     }
 }
 
-fn parameters_in(f: &[u8], h: Header, n: u32) -> TypeCountAnswer
-    ensures { λ r. ⌜ count-outcome r ≡ parametersIn (now (f .entry)) n h ⌝ }
+fn parameters_in(f: &[u8], header: Header, n: u32) -> TypeCountAnswer
+    ensures { λ r. ⌜ count-outcome r ≡ parametersIn (now (f .entry)) n header ⌝ }
 {
-    match super::tables::proto_in(f, h, n) {
+    match super::tables::proto_in(f, header, n) {
         ProtoAnswer::Refused(r) => TypeCountAnswer::Refused(r),
-        ProtoAnswer::Got(p) => type_list::list_count(f, h, p.parameters),
+        ProtoAnswer::Got(p) => type_list::list_count(f, header, p.parameters),
     }
 }
 
@@ -63,12 +63,12 @@ pub fn parameter(f: &[u8], n: u32, k: u32) -> TypeAnswer
     }
 }
 
-fn parameter_in(f: &[u8], h: Header, n: u32, k: u32) -> TypeAnswer
-    ensures { λ r. ⌜ type-outcome r ≡ parameterIn (now (f .entry)) n k h ⌝ }
+fn parameter_in(f: &[u8], header: Header, n: u32, k: u32) -> TypeAnswer
+    ensures { λ r. ⌜ type-outcome r ≡ parameterIn (now (f .entry)) n k header ⌝ }
 {
-    match super::tables::proto_in(f, h, n) {
+    match super::tables::proto_in(f, header, n) {
         ProtoAnswer::Refused(r) => TypeAnswer::Refused(r),
-        ProtoAnswer::Got(p) => list_type(f, h, p.parameters, k),
+        ProtoAnswer::Got(p) => list_type(f, header, p.parameters, k),
     }
 }
 
@@ -82,12 +82,12 @@ pub fn interface_count(f: &[u8], n: u32) -> TypeCountAnswer
     }
 }
 
-fn interfaces_in(f: &[u8], h: Header, n: u32) -> TypeCountAnswer
-    ensures { λ r. ⌜ count-outcome r ≡ interfacesIn (now (f .entry)) n h ⌝ }
+fn interfaces_in(f: &[u8], header: Header, n: u32) -> TypeCountAnswer
+    ensures { λ r. ⌜ count-outcome r ≡ interfacesIn (now (f .entry)) n header ⌝ }
 {
-    match super::tables::class_in(f, h, n) {
+    match super::tables::class_in(f, header, n) {
         ClassAnswer::Refused(r) => TypeCountAnswer::Refused(r),
-        ClassAnswer::Got(c) => type_list::list_count(f, h, c.interfaces),
+        ClassAnswer::Got(c) => type_list::list_count(f, header, c.interfaces),
     }
 }
 
@@ -101,11 +101,11 @@ pub fn interface(f: &[u8], n: u32, k: u32) -> TypeAnswer
     }
 }
 
-fn interface_in(f: &[u8], h: Header, n: u32, k: u32) -> TypeAnswer
-    ensures { λ r. ⌜ type-outcome r ≡ interfaceIn (now (f .entry)) n k h ⌝ }
+fn interface_in(f: &[u8], header: Header, n: u32, k: u32) -> TypeAnswer
+    ensures { λ r. ⌜ type-outcome r ≡ interfaceIn (now (f .entry)) n k header ⌝ }
 {
-    match super::tables::class_in(f, h, n) {
+    match super::tables::class_in(f, header, n) {
         ClassAnswer::Refused(r) => TypeAnswer::Refused(r),
-        ClassAnswer::Got(c) => list_type(f, h, c.interfaces, k),
+        ClassAnswer::Got(c) => list_type(f, header, c.interfaces, k),
     }
 }

@@ -19,12 +19,12 @@ pub fn string(f: &[u8], n: u32) -> TextAnswer
     }
 }
 
-fn string_in(f: &[u8], h: Header, n: u32) -> TextAnswer
-    ensures { λ r. ⌜ text-outcome r ≡ stringIn (now (f .entry)) n h ⌝ }
+fn string_in(f: &[u8], header: Header, n: u32) -> TextAnswer
+    ensures { λ r. ⌜ text-outcome r ≡ stringIn (now (f .entry)) n header ⌝ }
 {
-    let strings = h.strings;
+    let strings = header.strings;
     if n < strings.count {
-        return string_ids::string_at(f, h, n);
+        return string_ids::string_at(f, header, n);
     }
     TextAnswer::Refused(Refusal {
         number: 7,

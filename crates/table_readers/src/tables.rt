@@ -24,12 +24,12 @@ pub fn type_name(f: &[u8], n: u32) -> IndexAnswer
     }
 }
 
-fn type_in(f: &[u8], h: Header, n: u32) -> IndexAnswer
-    ensures { λ r. ⌜ index-outcome r ≡ typeIn (now (f .entry)) n h ⌝ }
+fn type_in(f: &[u8], header: Header, n: u32) -> IndexAnswer
+    ensures { λ r. ⌜ index-outcome r ≡ typeIn (now (f .entry)) n header ⌝ }
 {
-    let t = h.types;
+    let t = header.types;
     if n < t.count {
-        return ids::type_at(f, header::frame_of(h, 0), t.offset, n);
+        return ids::type_at(f, header::frame_of(header, 0), t.offset, n);
     }
     IndexAnswer::Refused(Refusal {
         number: 7,
@@ -47,12 +47,12 @@ pub fn proto(f: &[u8], n: u32) -> ProtoAnswer
     }
 }
 
-pub fn proto_in(f: &[u8], h: Header, n: u32) -> ProtoAnswer
-    ensures { λ r. ⌜ proto-outcome r ≡ protoIn (now (f .entry)) n h ⌝ }
+pub fn proto_in(f: &[u8], header: Header, n: u32) -> ProtoAnswer
+    ensures { λ r. ⌜ proto-outcome r ≡ protoIn (now (f .entry)) n header ⌝ }
 {
-    let t = h.protos;
+    let t = header.protos;
     if n < t.count {
-        return ids::proto_at(f, header::frame_of(h, 0), h.end, t.offset, n);
+        return ids::proto_at(f, header::frame_of(header, 0), header.end, t.offset, n);
     }
     ProtoAnswer::Refused(Refusal {
         number: 7,
@@ -70,13 +70,13 @@ pub fn field(f: &[u8], n: u32) -> MemberIdAnswer
     }
 }
 
-fn field_in(f: &[u8], h: Header, n: u32) -> MemberIdAnswer
-    ensures { λ r. ⌜ member-id-outcome r ≡ fieldIn (now (f .entry)) n h ⌝ }
+fn field_in(f: &[u8], header: Header, n: u32) -> MemberIdAnswer
+    ensures { λ r. ⌜ member-id-outcome r ≡ fieldIn (now (f .entry)) n header ⌝ }
 {
-    let t = h.fields;
-    let types = h.types;
+    let t = header.fields;
+    let types = header.types;
     if n < t.count {
-        return ids::member_at(f, header::frame_of(h, 0), types.count, t.offset, n);
+        return ids::member_at(f, header::frame_of(header, 0), types.count, t.offset, n);
     }
     MemberIdAnswer::Refused(Refusal {
         number: 7,
@@ -94,13 +94,13 @@ pub fn method(f: &[u8], n: u32) -> MemberIdAnswer
     }
 }
 
-fn method_in(f: &[u8], h: Header, n: u32) -> MemberIdAnswer
-    ensures { λ r. ⌜ member-id-outcome r ≡ methodIn (now (f .entry)) n h ⌝ }
+fn method_in(f: &[u8], header: Header, n: u32) -> MemberIdAnswer
+    ensures { λ r. ⌜ member-id-outcome r ≡ methodIn (now (f .entry)) n header ⌝ }
 {
-    let t = h.methods;
-    let protos = h.protos;
+    let t = header.methods;
+    let protos = header.protos;
     if n < t.count {
-        return ids::member_at(f, header::frame_of(h, 0), protos.count, t.offset, n);
+        return ids::member_at(f, header::frame_of(header, 0), protos.count, t.offset, n);
     }
     MemberIdAnswer::Refused(Refusal {
         number: 7,
@@ -118,12 +118,12 @@ pub fn class(f: &[u8], n: u32) -> ClassAnswer
     }
 }
 
-pub fn class_in(f: &[u8], h: Header, n: u32) -> ClassAnswer
-    ensures { λ r. ⌜ class-outcome r ≡ classIn (now (f .entry)) n h ⌝ }
+pub fn class_in(f: &[u8], header: Header, n: u32) -> ClassAnswer
+    ensures { λ r. ⌜ class-outcome r ≡ classIn (now (f .entry)) n header ⌝ }
 {
-    let t = h.classes;
+    let t = header.classes;
     if n < t.count {
-        return class_ids::class_at(f, header::frame_of(h, 0), h.end, t.offset, n);
+        return class_ids::class_at(f, header::frame_of(header, 0), header.end, t.offset, n);
     }
     ClassAnswer::Refused(Refusal {
         number: 7,
@@ -141,21 +141,21 @@ pub fn handle(f: &[u8], n: u32) -> HandleAnswer
     }
 }
 
-fn handle_in(f: &[u8], h: Header, n: u32) -> HandleAnswer
-    ensures { λ r. ⌜ handle-outcome r ≡ handleIn (now (f .entry)) n h ⌝ }
+fn handle_in(f: &[u8], header: Header, n: u32) -> HandleAnswer
+    ensures { λ r. ⌜ handle-outcome r ≡ handleIn (now (f .entry)) n header ⌝ }
 {
-    match map_list::map_of(f, h) {
+    match map_list::map_of(f, header) {
         MapAnswer::Refused(r) => HandleAnswer::Refused(r),
-        MapAnswer::Got(m) => handle_under(f, h, m, n),
+        MapAnswer::Got(m) => handle_under(f, header, m, n),
     }
 }
 
-fn handle_under(f: &[u8], h: Header, m: MapList, n: u32) -> HandleAnswer
-    ensures { λ r. ⌜ handle-outcome r ≡ handleUnder (now (f .entry)) n h m ⌝ }
+fn handle_under(f: &[u8], header: Header, m: MapList, n: u32) -> HandleAnswer
+    ensures { λ r. ⌜ handle-outcome r ≡ handleUnder (now (f .entry)) n header m ⌝ }
 {
     let t = m.handles;
     if n < t.count {
-        return ids::handle_at(f, header::frame_of(h, t.count), t.offset, n);
+        return ids::handle_at(f, header::frame_of(header, t.count), t.offset, n);
     }
     HandleAnswer::Refused(Refusal {
         number: 7,

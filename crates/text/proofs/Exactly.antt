@@ -6,6 +6,7 @@ use mathlib.Core.Logic.{_⊎_, inl, inr}
 use mathlib.Core.List.{List, [], _∷_}
 use lib.ListN.{length, getD, length-append}
 use native.Mathlib.Omega.{arith}
+use Rattle.refusal.specs.Refusals.{malformed-text, runs-past}
 use Rattle.refusal.specs.Rows.{Found, Next, more, ends}
 use Rattle.refusal.specs.Exact.{Exact, At, here, there, Ended, over, longer}
 use Rattle.refusal.proofs.Exact.{same, answer-exact, given-exact, bind-exact, either-exact, exact-iff, below, at-most, equal, one-of}
@@ -74,12 +75,12 @@ module _ (s : List ℕ) (item p : ℕ) where
   tests-exact : Exact (formAt s item p) Tests
   unfolding formAt wideAt twoAt threeAt
   tests-exact =
-      given-exact 9 item (below p (length s))
+      given-exact (runs-past item) (below p (length s))
       (either-exact (below a 0x80) (either-exact (below 0 a) (answer-exact _) (answer-exact _))
       (either-exact (equal (a / 32) 6)
-      (given-exact 9 item (at-most 2 (length s - p)) (given-exact 14 item (equal (b / 64) 2) (given-exact 14 item (one-of (at-most 0x80 (unit2 a b)) (equal (unit2 a b) 0)) (answer-exact _))))
-      (given-exact 14 item (equal (a / 16) 14)
-      (given-exact 9 item (at-most 3 (length s - p)) (given-exact 14 item (equal (b / 64) 2) (given-exact 14 item (equal (c / 64) 2) (given-exact 14 item (at-most 0x800 (unit3 a b c)) (answer-exact _))))))))
+      (given-exact (runs-past item) (at-most 2 (length s - p)) (given-exact (malformed-text item) (equal (b / 64) 2) (given-exact (malformed-text item) (one-of (at-most 0x80 (unit2 a b)) (equal (unit2 a b) 0)) (answer-exact _))))
+      (given-exact (malformed-text item) (equal (a / 16) 14)
+      (given-exact (runs-past item) (at-most 3 (length s - p)) (given-exact (malformed-text item) (equal (b / 64) 2) (given-exact (malformed-text item) (equal (c / 64) 2) (given-exact (malformed-text item) (at-most 0x800 (unit3 a b c)) (answer-exact _))))))))
 
   -- the bytes at p
   stands-two : 2 ≤ length s - p → Stands s p (a ∷ b ∷ []) (p + 2)
@@ -201,7 +202,7 @@ encode-long (u ∷ us) h =
 pub units-exact : (s : List ℕ) (item p : ℕ) → Exact (unitsAt s item p) (λ (r : Found (List ℕ) ℕ). Spelt s p (r .item) (r .next))
 unfolding unitsAt
 units-exact s item p =
-    exact-iff (until-exact (formAt s item) (Step s) (End s) (form-exact s item) 9 item (length s - p) p)
+    exact-iff (until-exact (formAt s item) (Step s) (End s) (form-exact s item) (runs-past item) (length s - p) p)
     (λ r h. spelt-sound s (h .0))
     (λ r h. (spelt-complete s (r .item) p (r .next) h, enough r h))
   where
@@ -213,7 +214,7 @@ pub string-exact : (s : List ℕ) (item : ℕ) → Exact (stringAt s item) (Stri
 unfolding stringAt
 string-exact s item =
     exact-iff
-    (bind-exact _ _ (uleb-exact s item item) (λ n. bind-exact _ _ (units-exact s item (n .next)) (λ u. given-exact 14 item (equal (length (u .item)) (n .item)) (answer-exact _))))
+    (bind-exact _ _ (uleb-exact s item item) (λ n. bind-exact _ _ (units-exact s item (n .next)) (λ u. given-exact (malformed-text item) (equal (length (u .item)) (n .item)) (answer-exact _))))
     (λ t h. found t (h .0) (h .1 .0) (h .1 .1 .0) (h .1 .1 .1 .0) (h .1 .1 .1 .1))
     (λ t h. (record { item = h .stored; next = t .start }, (h .number, (record { item = t .units; next = h .zero }, (spelt t h, (h .count, λ i. record { start = t .start; bytes = stands-stretch s (h .stands) i; units = t .units }))))))
   where

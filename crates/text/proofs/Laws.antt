@@ -13,6 +13,7 @@ use native.Mathlib.Numerals.{add-one}
 use native.Mathlib.Omega.{arith}
 use mir.Syntax.{w8, w32}
 use mir.Val.{Fits}
+use Rattle.refusal.specs.Refusals.{malformed-text, runs-past}
 use Rattle.refusal.specs.declared.Refusal.{Refusal}
 use Rattle.refusal.specs.Outcome.{Outcome, answer, refused, _>>=_, given}
 use Rattle.refusal.specs.Rows.{Found, Next, more, ends}
@@ -57,11 +58,11 @@ pub record Head (s : List ℕ) (item start p count : ℕ) : Type 0 where
   left : ℕ
   enough : length s ≤ p + left
   pub passed : start + count ≤ p
-  ending : Ending (formAt s item) 9 item (unitsAt s item start) (λ (l : List ℕ). length l ≡ count) left p
+  ending : Ending (formAt s item) (runs-past item) (unitsAt s item start) (λ (l : List ℕ). length l ≡ count) left p
 
 pub head-first : (s : List ℕ) (item start : ℕ) → Head s item start start 0
 unfolding unitsAt
-head-first s item start = record { left = length s - start; enough = omega arith; passed = omega arith; ending = ending-first (formAt s item) 9 item (λ (l : List ℕ). length l ≡ 0) (length s - start) start refl }
+head-first s item start = record { left = length s - start; enough = omega arith; passed = omega arith; ending = ending-first (formAt s item) (runs-past item) (λ (l : List ℕ). length l ≡ 0) (length s - start) start refl }
 
 -- a form is found, and its place moves on
 form-moves : (s : List ℕ) (item p : ℕ) {u n : ℕ} → answer (more u n) ≡ formAt s item p → p < n
@@ -88,11 +89,11 @@ module _ {s : List ℕ} {item start p count : ℕ} (h : Head s item start p coun
 
   pub head-one : p < length s → getD s p 0 < 0x80 → 0 < getD s p 0 → Head s item start (p + 1) (count + 1)
   unfolding formAt
-  head-one i q r = next i (passes 9 item (lt-ltb p (length s) i) (picks _ (lt-ltb (getD s p 0) 0x80 q) (picks _ (lt-ltb 0 (getD s p 0) r) refl)))
+  head-one i q r = next i (passes (runs-past item) (lt-ltb p (length s) i) (picks _ (lt-ltb (getD s p 0) 0x80 q) (picks _ (lt-ltb 0 (getD s p 0) r) refl)))
 
   wide : {y : Outcome (Next ℕ ℕ)} → p < length s → 0x80 ≤ getD s p 0 → y ≡ wideAt s item p → y ≡ formAt s item p
   unfolding formAt
-  wide i q e = passes 9 item (lt-ltb p (length s) i) (leaves _ (le-ltb (getD s p 0) 0x80 q) e)
+  wide i q e = passes (runs-past item) (lt-ltb p (length s) i) (leaves _ (le-ltb (getD s p 0) 0x80 q) e)
 
   pub head-wide : {x : WideAnswer} {u n : ℕ} → p < length s → 0x80 ≤ getD s p 0 → wide-outcome x ≡ wideAt s item p → x ≡ W.Got u n → Head s item start n (count + 1)
   head-wide i q e t = next i (wide i q (sym (ap wide-outcome t) ∙ e))
@@ -107,14 +108,14 @@ module _ {s : List ℕ} {item start p count : ℕ} (h : Head s item start p coun
   unfolding countAt formAt
   head-done i q r =
       let g = h .enough in
-      let d = ending-done (h .ending) (omega arith) (passes 9 item (lt-ltb p (length s) i) (picks _ (lt-ltb (getD s p 0) 0x80 q) (leaves _ (le-ltb 0 (getD s p 0) r) refl))) in
+      let d = ending-done (h .ending) (omega arith) (passes (runs-past item) (lt-ltb p (length s) i) (picks _ (lt-ltb (getD s p 0) 0x80 q) (leaves _ (le-ltb 0 (getD s p 0) r) refl))) in
       sym (bind-answer counted (sym (d .1 .1)) ∙ (λ i. answer (record { item = d .1 .0 i; next = p })))
 
-  pub head-end : length s ≤ p → refused (record { number = 9; place = item }) ≡ countAt s item start
+  pub head-end : length s ≤ p → refused (runs-past item) ≡ countAt s item start
   unfolding countAt formAt
   head-end i = go (h .left) (h .ending)
     where
-      go : (n : ℕ) → Ending (formAt s item) 9 item (unitsAt s item start) (λ (l : List ℕ). length l ≡ count) n p → refused (record { number = 9; place = item }) ≡ countAt s item start
+      go : (n : ℕ) → Ending (formAt s item) (runs-past item) (unitsAt s item start) (λ (l : List ℕ). length l ≡ count) n p → refused (runs-past item) ≡ countAt s item start
       go zero e = sym (bind-refused counted (sym (ending-full e (omega arith))))
       go (suc n) e = sym (bind-refused counted (sym (ending-stop e (omega arith) (fails _ (le-ltb p (length s) i)))))
 
@@ -152,22 +153,22 @@ unfoldable pub stagedAt : List ℕ → ℕ → Outcome Extent
 stagedAt s item = do
   n ← ulebAt s item item
   c ← countAt s item (n .next)
-  given (eqb (c .item) (n .item)) 14 item (answer (record { start = n .next; length = c .next - n .next; units = c .item }))
+  given (eqb (c .item) (n .item)) (malformed-text item) (answer (record { start = n .next; length = c .next - n .next; units = c .item }))
 
 module _ (s : List ℕ) (item : ℕ) where
   abbrev compared-with : Found ℕ ℕ → Found ℕ ℕ → Outcome Extent
-  compared-with n c = given (eqb (c .item) (n .item)) 14 item (answer (record { start = n .next; length = c .next - n .next; units = c .item }))
+  compared-with n c = given (eqb (c .item) (n .item)) (malformed-text item) (answer (record { start = n .next; length = c .next - n .next; units = c .item }))
 
   abbrev text-with : Found ℕ ℕ → Found (List ℕ) ℕ → Outcome Text
-  text-with n u = given (eqb (length (u .item)) (n .item)) 14 item (answer (record { start = n .next; bytes = stretch s (n .next) (u .next - n .next); units = u .item }))
+  text-with n u = given (eqb (length (u .item)) (n .item)) (malformed-text item) (answer (record { start = n .next; bytes = stretch s (n .next) (u .next - n .next); units = u .item }))
 
   -- of a text that is compared, its extent is left
   extent-with : (n : Found ℕ ℕ) (u : Found (List ℕ) ℕ) → (text-with n u >>= extent) ≡ (counted u >>= compared-with n)
   unfolding given _>>=_ extent
   extent-with n u = go (eqb (length (u .item)) (n .item))
     where
-      go : (t : Bool) → (given t 14 item (answer (record { start = n .next; bytes = stretch s (n .next) (u .next - n .next); units = u .item })) >>= extent)
-          ≡ given t 14 item (answer (record { start = n .next; length = u .next - n .next; units = length (u .item) }))
+      go : (t : Bool) → (given t (malformed-text item) (answer (record { start = n .next; bytes = stretch s (n .next) (u .next - n .next); units = u .item })) >>= extent)
+          ≡ given t (malformed-text item) (answer (record { start = n .next; length = u .next - n .next; units = length (u .item) }))
       go true = λ i. answer (record { start = n .next; length = length-stretch s (n .next) (u .next - n .next) i; units = length (u .item) })
       go false = refl
 

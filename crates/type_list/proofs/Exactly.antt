@@ -5,6 +5,7 @@ use mathlib.Core.Path.{_≡_, refl, sym, subst}
 use mathlib.Core.List.{List}
 use lib.ListN.{length}
 use native.Mathlib.Omega.{arith}
+use Rattle.refusal.specs.Refusals.{runs-past, wrong-index}
 use Rattle.refusal.specs.Outcome.{answer}
 use Rattle.refusal.specs.Rows.{every}
 use Rattle.refusal.specs.Exact.{Exact, Each}
@@ -16,13 +17,13 @@ use Rattle.type_list.specs.TypeList.{entryNumber, entryAt, listOf, listA
 use Rattle.type_list.specs.Below.{list-judge, typesBelow}
 use Rattle.type_list.specs.Rules.{TypeEntryRule, TypeListRule, TypesBelowRule}
 use Rattle.header.specs.declared.Header.{Header}
-use Rattle.header.specs.Header.{section}
+use Rattle.header.specs.Header.{up-to-end}
 
 module _ (s : List ℕ) (j : TypeListJudge) where
   entry-exact : (k : ℕ) → Exact (entryAt s j k) (TypeEntryRule s j k)
   unfolding entryAt
   entry-exact k =
-      exact-iff (given-exact 11 (j .at) (below (entryNumber s j k) (j .types)) (answer-exact _))
+      exact-iff (given-exact (wrong-index (j .at)) (below (entryNumber s j k) (j .types)) (answer-exact _))
       (λ t h. record { stands = h .1; range = subst (λ (x : ℕ). x < j .types) (h .1) (h .0) })
       (λ t h. (subst (λ (x : ℕ). x < j .types) (sym (h .stands)) (h .range), h .stands))
 
@@ -36,7 +37,7 @@ module _ (s : List ℕ) (j : TypeListJudge) where
   pub list-exact : Exact (listAt s j) (TypeListRule s j)
   unfolding listAt listOf
   list-exact =
-      exact-iff (given-exact 9 (j .at) (at-most (j .at + 4) (length s)) (given-exact 9 (j .at) (at-most (j .at + 4 + 2 * u32At (j .order) s (j .at)) (length s)) (all-exact (u32At (j .order) s (j .at)))))
+      exact-iff (given-exact (runs-past (j .at)) (at-most (j .at + 4) (length s)) (given-exact (runs-past (j .at)) (at-most (j .at + 4 + 2 * u32At (j .order) s (j .at)) (length s)) (all-exact (u32At (j .order) s (j .at)))))
       (λ l h. let size = h .1 .1 .count in let room = h .1 .0 in record { size = sym size; room = omega arith; entries = record { count = refl; each = h .1 .1 .each } })
       (λ l h. let size = h .size in let room = h .room in (omega arith, (omega arith, record { count = sym size; each = h .entries .each })))
 
@@ -46,4 +47,4 @@ module _ (s : List ℕ) (j : TypeListJudge) where
 -- the list at an offset, or none
 pub types-below-exact : (f : List ℕ) (h : Header) (at : ℕ) → Exact (typesBelow f h at) (TypesBelowRule f h at)
 unfolding typesBelow
-types-below-exact f h at = present-exact at (list-exact (section f h) (list-judge h at))
+types-below-exact f h at = present-exact at (list-exact (up-to-end f h) (list-judge h at))

@@ -12,6 +12,7 @@ use borrow.Author.Tests.{lt-ltb, le-ltb, le-leb, lt-leb}
 use native.Mathlib.Omega.{arith}
 use mir.Syntax.{w32}
 use mir.Val.{Fits}
+use Rattle.refusal.specs.Refusals.{runs-past, wrong-index}
 use Rattle.refusal.specs.Outcome.{Outcome, answer, refused, _>>=_, present, accepted}
 use Rattle.refusal.specs.Rows.{every}
 use Rattle.refusal.proofs.Laws.{said, tests, calls, passes, fails, picks, leaves, bind-answer, bind-refused}
@@ -23,7 +24,7 @@ use Rattle.type_list.specs.declared.TypeListJudge.{TypeListJudge}
 use Rattle.refusal.specs.declared.CheckAnswer.{CheckAnswer}
 use Rattle.refusal.specs.Answers.{checked-outcome}
 use Rattle.header.specs.declared.Header.{Header}
-use Rattle.header.specs.Header.{section}
+use Rattle.header.specs.Header.{up-to-end}
 use Rattle.type_list.specs.declared.TypeCountAnswer.{TypeCountAnswer}
 use Rattle.type_list.specs.declared.TypeAnswer.{TypeAnswer}
 use Rattle.type_list.specs.TypeList.{entryNumber, entryAt, listOf, listAt, counted, countAt, allAt}
@@ -50,12 +51,12 @@ module _ {s : List ℕ} {j : TypeListJudge} {count left k : ℕ} (h : Going s j 
   pub going-next : {t : ℕ} → 0 < left → t ≡ entryNumber s j k → t < j .types → Going s j count (left - 1) (k + 1)
   unfolding entryAt
   going-next l e p = record {
-    numbers = numbers-next (h .numbers) l (passes 11 (j .at) (lt-ltb (entryNumber s j k) (j .types) (let z = e in omega arith)) refl);
+    numbers = numbers-next (h .numbers) l (passes (wrong-index (j .at)) (lt-ltb (entryNumber s j k) (j .types) (let z = e in omega arith)) refl);
     sum = let z = h .sum in omega arith;
     fits = h .fits;
   }
 
-  pub going-stop : {t : ℕ} → 0 < left → t ≡ entryNumber s j k → j .types ≤ t → refused (record { number = 11; place = j .at }) ≡ allAt s j count
+  pub going-stop : {t : ℕ} → 0 < left → t ≡ entryNumber s j k → j .types ≤ t → refused (wrong-index (j .at)) ≡ allAt s j count
   unfolding allAt entryAt
   going-stop l e p = numbers-stop (h .numbers) accepted l (fails _ (le-ltb (entryNumber s j k) (j .types) (let z = e in omega arith)))
 
@@ -65,20 +66,20 @@ module _ {s : List ℕ} {j : TypeListJudge} {count left k : ℕ} (h : Going s j 
 
 -- ---- the stages of the list
 module _ (s : List ℕ) (j : TypeListJudge) where
-  pub list-low : length s < j .at → refused (record { number = 9; place = j .at }) ≡ countAt s j
+  pub list-low : length s < j .at → refused (runs-past (j .at)) ≡ countAt s j
   unfolding countAt listAt
   list-low h = sym (bind-refused counted (sym (fails _ (lt-leb (j .at + 4) (length s) (omega arith)))))
 
-  pub list-short : j .at ≤ length s → length s - j .at < 4 → refused (record { number = 9; place = j .at }) ≡ countAt s j
+  pub list-short : j .at ≤ length s → length s - j .at < 4 → refused (runs-past (j .at)) ≡ countAt s j
   unfolding countAt listAt
   list-short p h = sym (bind-refused counted (sym (fails _ (lt-leb (j .at + 4) (length s) (omega arith)))))
 
   module _ {count : ℕ} (read : count ≡ u32At (j .order) s (j .at)) (p : j .at ≤ length s) (q : 4 ≤ length s - j .at) where
     past-size : listAt s j ≡ listOf s j count
     unfolding listAt
-    past-size = rw (← read) (sym (passes 9 (j .at) (le-leb (j .at + 4) (length s) (omega arith)) refl))
+    past-size = rw (← read) (sym (passes (runs-past (j .at)) (le-leb (j .at + 4) (length s) (omega arith)) refl))
 
-    pub list-long : length s - j .at - 4 < 2 * count → refused (record { number = 9; place = j .at }) ≡ countAt s j
+    pub list-long : length s - j .at - 4 < 2 * count → refused (runs-past (j .at)) ≡ countAt s j
     unfolding countAt listOf
     list-long h = sym (bind-refused counted (past-size ∙ sym (fails _ (lt-leb (j .at + 4 + 2 * count) (length s) (omega arith)))))
 
@@ -86,7 +87,7 @@ module _ (s : List ℕ) (j : TypeListJudge) where
       entries : countAt s j ≡ (allAt s j count >>= λ (u : Unit). answer count)
       unfolding countAt listOf allAt _>>=_
       entries =
-          ap (λ (o : Outcome (List ℕ)). o >>= counted) (past-size ∙ sym (passes 9 (j .at) (le-leb (j .at + 4 + 2 * count) (length s) (omega arith)) refl))
+          ap (λ (o : Outcome (List ℕ)). o >>= counted) (past-size ∙ sym (passes (runs-past (j .at)) (le-leb (j .at + 4 + 2 * count) (length s) (omega arith)) refl))
           ∙ go (every (entryAt s j) count) refl
         where
           go : (o : Outcome (List ℕ)) → every (entryAt s j) count ≡ o → (o >>= counted) ≡ ((o >>= accepted) >>= λ (u : Unit). answer count)
@@ -104,7 +105,7 @@ on-type = said type-outcome
 
 -- a list that was read in the file up to the data section's end, s
 module _ (f : List ℕ) (h : Header) (j : TypeListJudge) {s : List ℕ} {y : Outcome ℕ} where
-  pub count-in : s ≡ section f h → y ≡ countAt s j → y ≡ countAt (section f h) j
+  pub count-in : s ≡ up-to-end f h → y ≡ countAt s j → y ≡ countAt (up-to-end f h) j
   count-in e q = q ∙ ap (λ (x : List ℕ). countAt x j) e
 
 -- ---- the list at an offset
@@ -116,12 +117,12 @@ types-by f h at e = e ∙ go (or-zero at)
     or-zero zero = inr (omega arith)
     or-zero (suc n) = inl (omega arith)
 
-    go : (0 < at) ⊎ (at ≤ 0) → (cond (ltb 0 at) (countAt (section f h) (list-judge h at)) (answer 0) >>= accepted) ≡ (present at (listAt (section f h) (list-judge h at)) >>= accepted)
+    go : (0 < at) ⊎ (at ≤ 0) → (cond (ltb 0 at) (countAt (up-to-end f h) (list-judge h at)) (answer 0) >>= accepted) ≡ (present at (listAt (up-to-end f h) (list-judge h at)) >>= accepted)
     go (inl p) =
         ap (λ (o : Outcome ℕ). o >>= accepted) (sym (picks (answer 0) (lt-ltb 0 at p) refl))
-        ∙ made-kept _ (listAt (section f h) (list-judge h at))
-        ∙ present-kept (listAt (section f h) (list-judge h at)) p refl
-    go (inr p) = ap (λ (o : Outcome ℕ). o >>= accepted) (sym (leaves (countAt (section f h) (list-judge h at)) (le-ltb 0 at p) refl)) ∙ bind-answer accepted refl ∙ absent-kept (listAt (section f h) (list-judge h at)) p
+        ∙ made-kept _ (listAt (up-to-end f h) (list-judge h at))
+        ∙ present-kept (listAt (up-to-end f h) (list-judge h at)) p refl
+    go (inr p) = ap (λ (o : Outcome ℕ). o >>= accepted) (sym (leaves (countAt (up-to-end f h) (list-judge h at)) (le-ltb 0 at p) refl)) ∙ bind-answer accepted refl ∙ absent-kept (listAt (up-to-end f h) (list-judge h at)) p
 
 pub ruleset going = (entry-past, going-first, going-fits, going-next, going-stop, going-done, needs)
 

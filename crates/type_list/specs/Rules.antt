@@ -7,7 +7,7 @@ use lib.ListN.{length}
 use Rattle.refusal.specs.Exact.{Each, Present}
 use Rattle.word.specs.Words.{u32At}
 use Rattle.header.specs.declared.Header.{Header}
-use Rattle.header.specs.Header.{section}
+use Rattle.header.specs.Header.{up-to-end}
 use Rattle.type_list.specs.declared.TypeListJudge.{TypeListJudge}
 use Rattle.type_list.specs.TypeList.{entryNumber}
 use Rattle.type_list.specs.Below.{list-judge}
@@ -24,4 +24,4 @@ pub record TypeListRule (s : List ℕ) (j : TypeListJudge) (l : List ℕ) : Type
 
 -- the list that an offset leads to, none exactly where the offset is 0
 abbrev pub TypesBelowRule : List ℕ → Header → ℕ → Option (List ℕ) → Type 0
-TypesBelowRule f h at = Present (TypeListRule (section f h) (list-judge h at)) at
+TypesBelowRule f header at = Present (TypeListRule (up-to-end f header) (list-judge header at)) at

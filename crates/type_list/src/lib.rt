@@ -61,7 +61,7 @@ fn all(s: &[u8], j: TypeListJudge, count: u32) -> CheckAnswer
 }
 
 // How many entries a list has that obeys its rules: its length first, then its entries.
-pub fn count_at(s: &[u8], j: TypeListJudge) -> TypeCountAnswer
+fn count_at(s: &[u8], j: TypeListJudge) -> TypeCountAnswer
     ensures { λ r. ⌜ count-outcome r ≡ countAt (now (s .entry)) j ⌝ }
 {
     let order = j.order;
@@ -110,14 +110,14 @@ pub fn type_at(s: &[u8], j: TypeListJudge, k: u32) -> TypeAnswer
 }
 
 // How many types the list at an offset has, 0 where it is absent.
-pub fn list_count(f: &[u8], h: Header, at: u32) -> TypeCountAnswer
-    ensures { λ r. ⌜ count-outcome r ≡ listCount (now (f .entry)) h at ⌝ }
+pub fn list_count(f: &[u8], header: Header, at: u32) -> TypeCountAnswer
+    ensures { λ r. ⌜ count-outcome r ≡ listCount (now (f .entry)) header at ⌝ }
 {
-    let order = h.order;
-    let types = h.types;
+    let order = header.order;
+    let types = header.types;
     if 0 < at {
         return count_at(
-            header::section_of(f, h),
+            header::up_to_end(f, header),
             TypeListJudge {
                 order,
                 types: types.count,
@@ -129,10 +129,10 @@ pub fn list_count(f: &[u8], h: Header, at: u32) -> TypeCountAnswer
 }
 
 // The list of types at an offset, if it is not absent.
-pub fn check_types(f: &[u8], h: Header, at: u32) -> CheckAnswer
-    ensures { λ r. ⌜ checked-outcome r ≡ typesAccepted (now (f .entry)) h at ⌝ }
+pub fn check_types(f: &[u8], header: Header, at: u32) -> CheckAnswer
+    ensures { λ r. ⌜ checked-outcome r ≡ typesAccepted (now (f .entry)) header at ⌝ }
 {
-    match list_count(f, h, at) {
+    match list_count(f, header, at) {
         TypeCountAnswer::Refused(r) => CheckAnswer::Refused(r),
         TypeCountAnswer::Got(_) => CheckAnswer::Accepted,
     }

@@ -4,6 +4,7 @@ use Prim.Native.Nat.{ℕ, _<_, _≤_}
 use mathlib.Core.Path.{_≡_, _∙_}
 use mathlib.Core.List.{List}
 use lib.ListN.{length}
+use Rattle.refusal.specs.Refusals.{not-there}
 use Rattle.refusal.specs.Outcome.{answer, refused}
 use Rattle.refusal.specs.Exact.{At}
 use Rattle.refusal.proofs.Laws.{bind-answer, bind-refused}
@@ -33,7 +34,7 @@ module _ (s : List ℕ) (w : Walk) (p q : ℕ) (vs : List Tree) (h : ArrayRule s
   pub array-there : (k : ℕ) → k < length vs → (v : Tree) × (At vs k v × (arrayValue s w p k ≡ answer (shown v)))
   array-there k l = let a = at-some vs k l in (a .0, (a .1, array-kth k (a .0) (a .1)))
 
-  pub array-past : (k : ℕ) → length vs ≤ k → arrayValue s w p k ≡ refused (record { number = 7; place = 0 })
+  pub array-past : (k : ℕ) → length vs ≤ k → arrayValue s w p k ≡ refused not-there
   unfolding arrayValue
   array-past k l = bind-answer _ read ∙ bind-refused _ (pick-none vs k l)
 
@@ -52,6 +53,6 @@ module _ (s : List ℕ) (w : Walk) (p q : ℕ) (a : Annotation) (h : AnnotationR
   pub annotation-there : (k : ℕ) → k < length (a .elements) → (e : Named) × (At (a .elements) k e × (annotationElement s w p k ≡ answer (record { name = e .name; value = shown (e .value) })))
   annotation-there k l = let m = at-some (a .elements) k l in (m .0, (m .1, annotation-kth k (m .0) (m .1)))
 
-  pub annotation-past : (k : ℕ) → length (a .elements) ≤ k → annotationElement s w p k ≡ refused (record { number = 7; place = 0 })
+  pub annotation-past : (k : ℕ) → length (a .elements) ≤ k → annotationElement s w p k ≡ refused not-there
   unfolding annotationElement
   annotation-past k l = bind-answer _ read-noted ∙ bind-refused _ (pick-none (a .elements) k l)

@@ -6,6 +6,7 @@ use mathlib.Core.List.{List}
 use lib.ListN.{length}
 use native.Mathlib.Omega.{arith}
 use borrow.Author.Needs.{needs}
+use Rattle.refusal.specs.Refusals.{not-there}
 use Rattle.refusal.specs.declared.Refusal.{Refusal}
 use Rattle.refusal.specs.Outcome.{Outcome, answer, refused, _>>=_}
 use Rattle.refusal.specs.Rows.{Found, repeat}
@@ -90,7 +91,7 @@ module _ (s : List ℕ) (w : Walk) (p : ℕ) where
           unfolding arrayCount
           count-got = sym (bind-answer _ whole ∙ ap answer count-is)
 
-          pub value-none : (k : ℕ) → n ≤ k → refused (record { number = 7; place = 0 }) ≡ arrayValue s w p k
+          pub value-none : (k : ℕ) → n ≤ k → refused not-there ≡ arrayValue s w p k
           unfolding arrayValue
           value-none k h = let z = count-is in sym (bind-answer _ whole ∙ bind-refused _ (pick-none (all .0 .item) k (omega arith)))
 
@@ -177,7 +178,7 @@ module _ (s : List ℕ) (w : Walk) (p : ℕ) where
           begins : annotation-rule there-all .size ≡ record { item = n; next = m }
           begins = answers-equal (sym (start-there there-all) ∙ got f u)
 
-          pub element-none : (k : ℕ) → n ≤ k → refused (record { number = 7; place = 0 }) ≡ annotationElement s w p k
+          pub element-none : (k : ℕ) → n ≤ k → refused not-there ≡ annotationElement s w p k
           unfolding annotationElement
           element-none k h =
               let z = row-length (annotation-rule there-all .row) ∙ ap (λ (c : Found ℕ ℕ). c .item) begins in

@@ -5,6 +5,7 @@ use mathlib.Core.Path.{_≡_, refl, ap, _∙_}
 use mathlib.Core.List.{List, [], _∷_}
 use lib.ListN.{length}
 use native.Mathlib.Omega.{arith}
+use Rattle.refusal.specs.Refusals.{not-there}
 use Rattle.refusal.specs.Outcome.{Outcome, answer, refused, _>>=_}
 use Rattle.refusal.specs.Rows.{Found, past, repeat}
 use Rattle.refusal.specs.Exact.{Exact, Row, empty, first, At, here, there}
@@ -17,7 +18,7 @@ unfolding pick
 pick-there here = refl
 pick-there (there m) = pick-there m
 
-pub pick-none : {A : Type 0} (l : List A) (k : ℕ) → length l ≤ k → pick k l ≡ refused (record { number = 7; place = 0 })
+pub pick-none : {A : Type 0} (l : List A) (k : ℕ) → length l ≤ k → pick k l ≡ refused not-there
 unfolding pick
 pick-none [] k h = refl
 pick-none (a ∷ l) zero h = absurd (omega arith)

@@ -2,6 +2,7 @@
 use Prim.Native.Nat.{ℕ, zero, suc}
 use mathlib.Core.List.{List, [], _∷_}
 use lib.ListN.{length}
+use Rattle.refusal.specs.Refusals.{not-there}
 use Rattle.refusal.specs.Outcome.{Outcome, answer, refused, _>>=_}
 use Rattle.refusal.specs.Rows.{repeat}
 use Rattle.value_heads.specs.declared.Walk.{Walk}
@@ -13,7 +14,7 @@ use Rattle.decoded_value.specs.Readings.{decodedAt}
 
 -- number k of a list: "7: the caller asks for a number that is not there"
 unfoldable pub pick : {A : Type 0} → ℕ → List A → Outcome A
-pick k [] = refused (record { number = 7; place = 0 })
+pick k [] = refused not-there
 pick zero (a ∷ l) = answer a
 pick (suc k) (a ∷ l) = pick k l
 

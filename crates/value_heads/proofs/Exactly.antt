@@ -6,6 +6,7 @@ use mathlib.Core.Bool.{Bool, true, false, cond, false≢true}
 use mathlib.Core.List.{List}
 use lib.ListN.{length, getD}
 use native.Mathlib.Omega.{arith}
+use Rattle.refusal.specs.Refusals.{runs-past, wrong-index, wrong-value}
 use Rattle.refusal.specs.Rows.{Found}
 use Rattle.refusal.specs.Exact.{Exact, Decides}
 use Rattle.refusal.proofs.Exact.{below, at-most, both, given-exact, answer-exact, bind-exact, exact-iff}
@@ -26,7 +27,7 @@ known-decides h = below (h / 32) (getD arguments (h % 32) 0)
 pub head-exact : (s : List ℕ) (item p : ℕ) → Exact (headByteAt s item p) (HeadByteRule s p)
 unfolding headByteAt
 head-exact s item p =
-    exact-iff (given-exact 9 item (below p (length s)) (given-exact 12 item (known-decides (getD s p 0)) (answer-exact (getD s p 0))))
+    exact-iff (given-exact (runs-past item) (below p (length s)) (given-exact (wrong-value item) (known-decides (getD s p 0)) (answer-exact (getD s p 0))))
     (λ h k. record { room = k .0; byte = k .1 .1; known = rw (k .1 .1) at (k .1 .0) })
     (λ h k. (k .room, (rw (← k .byte) at (k .known), k .byte)))
 
@@ -34,7 +35,7 @@ head-exact s item p =
 pub number-exact : (s : List ℕ) (item p n : ℕ) → Exact (numberAt s item p n) (NumberRule s p n)
 unfolding numberAt
 number-exact s item p n =
-    exact-iff (given-exact 9 item (at-most (p + n) (length s)) (answer-exact (record { item = little (stretch s p n); next = p + n })))
+    exact-iff (given-exact (runs-past item) (at-most (p + n) (length s)) (answer-exact (record { item = little (stretch s p n); next = p + n })))
     (λ r h. subst (NumberRule s p n) (h .1) (found (h .0)))
     (λ r h. let e = h .stands .ends in let i = h .stands .inside in let z = h .size in
     (omega arith, λ i. record { item = worth h i; next = ends h i }))
@@ -69,6 +70,6 @@ range-decides w code x = where-asked (index-decides code) (below x (count-of w c
 pub index-exact : (s : List ℕ) (item count p : ℕ) → Exact (indexAt s item count p) (IndexRule s count p)
 unfolding indexAt
 index-exact s item count p =
-    exact-iff (bind-exact _ _ (uleb-exact s item p) (λ n. given-exact 11 item (below (n .item) count) (answer-exact n)))
+    exact-iff (bind-exact _ _ (uleb-exact s item p) (λ n. given-exact (wrong-index item) (below (n .item) count) (answer-exact n)))
     (λ r h. subst (IndexRule s count p) (h .1 .1 .1) (record { uleb = h .1 .0; range = h .1 .1 .0 }))
     (λ r h. (r, (h .uleb, (h .range, refl))))

@@ -11,6 +11,7 @@ use borrow.Author.Needs.{needs}
 use borrow.Author.Tests.{le-leb, lt-leb, eq-eqb, ne-eqb}
 use mir.Syntax.{w8, w64}
 use mir.Val.{Fits}
+use Rattle.refusal.specs.Refusals.{runs-past}
 use Rattle.refusal.specs.declared.Refusal.{Refusal}
 use Rattle.refusal.specs.Outcome.{Outcome, answer, refused, _>>=_, given}
 use Rattle.refusal.specs.Rows.{Found}
@@ -64,7 +65,7 @@ module _ (s : List ℕ) (item at h : ℕ) {n : ℕ} (size : n ≡ bytes-of h) {t
   unfolding numberAt given
   number-got m e = rw (← size, ← room, m) (λ i. answer (record { item = e i; next = at + n }))
 
-  pub number-short : t ≡ false → refused (record { number = 9; place = item }) ≡ numberAt s item at (bytes-of h)
+  pub number-short : t ≡ false → refused (runs-past item) ≡ numberAt s item at (bytes-of h)
   unfolding numberAt given
   number-short m = rw (← size, ← room, m)
 

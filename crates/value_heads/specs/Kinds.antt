@@ -33,14 +33,14 @@ is-index code = leb 0x15 code && ltb code 0x1c
 
 -- what indices are tested by while one item is gone over
 abbrev pub walkOf : Frame → ℕ → Walk
-walkOf f item = record {
+walkOf frame item = record {
   item = item;
-  strings = f .strings;
-  types = f .types;
-  protos = f .protos;
-  fields = f .fields;
-  methods = f .methods;
-  handles = f .handles;
+  strings = frame .strings;
+  types = frame .types;
+  protos = frame .protos;
+  fields = frame .fields;
+  methods = frame .methods;
+  handles = frame .handles;
 }
 
 -- the same for another item: "A body asked for by place .. is itself the item"

@@ -3,6 +3,7 @@ use Prim.Native.Nat.{ℕ, _+_, _%_}
 use mathlib.Core.List.{List}
 use lib.ListN.{length, getD}
 use lib.Dec.{ltb, leb}
+use Rattle.refusal.specs.Refusals.{runs-past, wrong-index, wrong-value}
 use Rattle.refusal.specs.Outcome.{Outcome, answer, _>>=_, given}
 use Rattle.refusal.specs.Rows.{Found}
 use Rattle.word.specs.Bytes.{stretch}
@@ -13,21 +14,21 @@ use Rattle.value_heads.specs.Numbers.{little}
 
 -- the head byte of a value: 9 where it is missing, 12 where it is not allowed
 unfoldable pub headByteAt : List ℕ → ℕ → ℕ → Outcome ℕ
-headByteAt s item p = given (ltb p (length s)) 9 item (given (allowed-head (getD s p 0)) 12 item (answer (getD s p 0)))
+headByteAt s item p = given (ltb p (length s)) (runs-past item) (given (allowed-head (getD s p 0)) (wrong-value item) (answer (getD s p 0)))
 
 -- the number of n bytes
 unfoldable pub numberAt : List ℕ → ℕ → ℕ → ℕ → Outcome (Found ℕ ℕ)
-numberAt s item p n = given (leb (p + n) (length s)) 9 item (answer (record { item = little (stretch s p n); next = p + n }))
+numberAt s item p n = given (leb (p + n) (length s)) (runs-past item) (answer (record { item = little (stretch s p n); next = p + n }))
 
 -- a LEB128 number that is an index below a count
 unfoldable pub indexAt : List ℕ → ℕ → ℕ → ℕ → Outcome (Found ℕ ℕ)
 indexAt s item count p = do
   n ← ulebAt s item p
-  given (ltb (n .item) count) 11 item (answer n)
+  given (ltb (n .item) count) (wrong-index item) (answer n)
 
 module _ (s : List ℕ) (w : Walk) where
   -- the number of a value that is no body, behind its head byte h: "then the bytes (9); then the index (11)"
   unfoldable pub checkedAt : ℕ → ℕ → Outcome (Found ℕ ℕ)
   checkedAt h p = do
     n ← numberAt s (w .item) p (bytes-of h)
-    given (in-range w (h % 32) (n .item)) 11 (w .item) (answer n)
+    given (in-range w (h % 32) (n .item)) (wrong-index (w .item)) (answer n)

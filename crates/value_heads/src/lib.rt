@@ -71,21 +71,21 @@ pub enum NumberAnswer {
     Refused(Refusal),
 }
 
-pub fn walk_of(f: Frame, item: usize) -> Walk
-    ensures { λ r. ⌜ r ≡ walkOf f item ⌝ }
+pub fn walk_of(frame: Frame, item: usize) -> Walk
+    ensures { λ r. ⌜ r ≡ walkOf frame item ⌝ }
 {
     Walk {
         item,
-        strings: f.strings,
-        types: f.types,
-        protos: f.protos,
-        fields: f.fields,
-        methods: f.methods,
-        handles: f.handles,
+        strings: frame.strings,
+        types: frame.types,
+        protos: frame.protos,
+        fields: frame.fields,
+        methods: frame.methods,
+        handles: frame.handles,
     }
 }
 
-pub fn is_allowed_head(head: u8) -> bool
+fn is_allowed_head(head: u8) -> bool
     ensures { λ r. ⌜ r ≡ allowed-head head ⌝ }
 {
     head / 32 < ARGUMENTS[(head % 32) as usize]
@@ -111,7 +111,7 @@ pub fn is_index_code(code: u8) -> bool
 }
 
 // The count that an index of a code is tested by: an enum is a field.
-pub fn limit_of(w: Walk, code: u8) -> u32
+fn limit_of(w: Walk, code: u8) -> u32
     ensures { λ r. ⌜ r ≡ count-of w code ⌝ }
 {
     if code == 0x15 {
@@ -167,7 +167,7 @@ fn joined(s: &[u8], at: usize, n: usize) -> u64
 }
 
 // The number of the bytes that follow a head byte.
-pub fn number_at(s: &[u8], item: usize, at: usize, head: u8) -> NumberAnswer
+fn number_at(s: &[u8], item: usize, at: usize, head: u8) -> NumberAnswer
     ensures { λ r. ⌜ (number-outcome r ≡ numberAt (now (s .entry)) item at (bytes-of head)) × Small head r ⌝ }
 {
     let n = size_of(head);
@@ -184,7 +184,7 @@ pub fn number_at(s: &[u8], item: usize, at: usize, head: u8) -> NumberAnswer
 }
 
 // Is a number allowed for a code: an index is below its count.
-pub fn is_in_range(w: Walk, code: u8, number: u64) -> bool
+fn is_in_range(w: Walk, code: u8, number: u64) -> bool
     ensures { λ r. ⌜ r ≡ in-range w code number ⌝ }
 {
     if is_index_code(code) {

@@ -9,7 +9,7 @@ use Rattle.refusal.specs.Outcome.{Outcome, _>>=_}
 use Rattle.refusal.proofs.Laws.{said, tests, calls}
 use Rattle.frame.specs.declared.Frame.{Frame}
 use Rattle.header.specs.declared.Header.{Header}
-use Rattle.header.specs.Header.{section, frame-of}
+use Rattle.header.specs.Header.{up-to-end, frame-of}
 use Rattle.table_readers.proofs.HeadLaws.{on-opened}
 use Rattle.class_ids.proofs.Laws.{laws as class-laws}
 use Rattle.value_heads.specs.declared.Walk.{Walk}
@@ -34,28 +34,28 @@ pub walk-framed : (h : Header) (handles item : ℕ) {r : Frame} {w : Walk} → r
 walk-framed h handles item e q = q ∙ ap (λ (x : Frame). walkOf x item) e
 
 -- a body that was read in the file up to the data section's end, s, against the file's counts, w
-module _ (f : List ℕ) (h : Header) (handles item p : ℕ) {s : List ℕ} {w : Walk} (e : s ≡ section f h) (g : w ≡ walk-in h handles item) where
-  pub array-walked : {y : Outcome ArraySize} → y ≡ arrayBody s w p → y ≡ arrayBody (section f h) (walk-in h handles item) p
+module _ (f : List ℕ) (h : Header) (handles item p : ℕ) {s : List ℕ} {w : Walk} (e : s ≡ up-to-end f h) (g : w ≡ walk-in h handles item) where
+  pub array-walked : {y : Outcome ArraySize} → y ≡ arrayBody s w p → y ≡ arrayBody (up-to-end f h) (walk-in h handles item) p
   array-walked q = q ∙ (λ i. arrayBody (e i) (g i) p)
 
-  pub count-walked : {y : Outcome ℕ} → y ≡ arrayCount s w p → y ≡ arrayCount (section f h) (walk-in h handles item) p
+  pub count-walked : {y : Outcome ℕ} → y ≡ arrayCount s w p → y ≡ arrayCount (up-to-end f h) (walk-in h handles item) p
   count-walked q = q ∙ (λ i. arrayCount (e i) (g i) p)
 
-  pub value-walked : (k : ℕ) {y : Outcome Shown} → y ≡ arrayValue s w p k → y ≡ arrayValue (section f h) (walk-in h handles item) p k
+  pub value-walked : (k : ℕ) {y : Outcome Shown} → y ≡ arrayValue s w p k → y ≡ arrayValue (up-to-end f h) (walk-in h handles item) p k
   value-walked k q = q ∙ (λ i. arrayValue (e i) (g i) p k)
 
-  pub body-walked : {y : Outcome NotedSize} → y ≡ notedBody s w p → y ≡ notedBody (section f h) (walk-in h handles item) p
+  pub body-walked : {y : Outcome NotedSize} → y ≡ notedBody s w p → y ≡ notedBody (up-to-end f h) (walk-in h handles item) p
   body-walked q = q ∙ (λ i. notedBody (e i) (g i) p)
 
-  pub element-walked : (k : ℕ) {y : Outcome ShownElement} → y ≡ annotationElement s w p k → y ≡ annotationElement (section f h) (walk-in h handles item) p k
+  pub element-walked : (k : ℕ) {y : Outcome ShownElement} → y ≡ annotationElement s w p k → y ≡ annotationElement (up-to-end f h) (walk-in h handles item) p k
   element-walked k q = q ∙ (λ i. annotationElement (e i) (g i) p k)
 
 -- an annotation item that was read there, against the file's counts, r
-module _ (f : List ℕ) (h : Header) (handles item : ℕ) {s : List ℕ} {r : Frame} (e : s ≡ section f h) (g : r ≡ frame-of h handles) where
-  pub summary-framed : {y : Outcome Summary} → y ≡ itemSummary s r item → y ≡ itemSummary (section f h) (frame-of h handles) item
+module _ (f : List ℕ) (h : Header) (handles item : ℕ) {s : List ℕ} {r : Frame} (e : s ≡ up-to-end f h) (g : r ≡ frame-of h handles) where
+  pub summary-framed : {y : Outcome Summary} → y ≡ itemSummary s r item → y ≡ itemSummary (up-to-end f h) (frame-of h handles) item
   summary-framed q = q ∙ (λ i. itemSummary (e i) (g i) item)
 
-  pub element-framed : (k : ℕ) {y : Outcome ShownElement} → y ≡ itemElement s r item k → y ≡ itemElement (section f h) (frame-of h handles) item k
+  pub element-framed : (k : ℕ) {y : Outcome ShownElement} → y ≡ itemElement s r item k → y ≡ itemElement (up-to-end f h) (frame-of h handles) item k
   element-framed k q = q ∙ (λ i. itemElement (e i) (g i) item k)
 
 -- a body ends after its place

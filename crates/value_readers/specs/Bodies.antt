@@ -2,7 +2,7 @@
 use Prim.Native.Nat.{ℕ, _-_}
 use mathlib.Core.List.{List}
 use Rattle.refusal.specs.Outcome.{Outcome, answer, _>>=_}
-use Rattle.header.specs.Header.{section}
+use Rattle.header.specs.Header.{up-to-end}
 use Rattle.value_heads.specs.declared.Walk.{Walk}
 use Rattle.encoded_value.specs.Depth.{deepest}
 use Rattle.encoded_value.specs.Readings.{pastArray, pastAnnotation}
@@ -22,10 +22,10 @@ arrayBody s w p = do
   answer (record { count = n; length = end - p })
 
 unfoldable pub arrayOf : List ℕ → ℕ → Outcome ArraySize
-arrayOf f place = openedWithin f place >>= λ o. arrayBody (section f (o .header)) (walk-in (o .header) (o .handles) place) place
+arrayOf f place = openedWithin f place >>= λ o. arrayBody (up-to-end f (o .header)) (walk-in (o .header) (o .handles) place) place
 
 unfoldable pub arrayValueOf : List ℕ → ℕ → ℕ → Outcome Shown
-arrayValueOf f place k = openedWithin f place >>= λ o. arrayValue (section f (o .header)) (walk-in (o .header) (o .handles) place) place k
+arrayValueOf f place k = openedWithin f place >>= λ o. arrayValue (up-to-end f (o .header)) (walk-in (o .header) (o .handles) place) place k
 
 -- the same of an annotation body, with its type
 pub record NotedSize : Type 0 where
@@ -40,7 +40,7 @@ notedBody s w p = do
   answer (record { type-index = n .type-index; count = n .count; length = end - p })
 
 unfoldable pub bodyOf : List ℕ → ℕ → Outcome NotedSize
-bodyOf f place = openedWithin f place >>= λ o. notedBody (section f (o .header)) (walk-in (o .header) (o .handles) place) place
+bodyOf f place = openedWithin f place >>= λ o. notedBody (up-to-end f (o .header)) (walk-in (o .header) (o .handles) place) place
 
 unfoldable pub elementOf : List ℕ → ℕ → ℕ → Outcome ShownElement
-elementOf f place k = openedWithin f place >>= λ o. annotationElement (section f (o .header)) (walk-in (o .header) (o .handles) place) place k
+elementOf f place k = openedWithin f place >>= λ o. annotationElement (up-to-end f (o .header)) (walk-in (o .header) (o .handles) place) place k

@@ -2,6 +2,7 @@
 use Prim.Native.Nat.{ℕ}
 use mathlib.Core.Bool.{false}
 use mathlib.Core.List.{List}
+use Rattle.refusal.specs.Refusals.{not-there}
 use Rattle.refusal.specs.Outcome.{Outcome, answer, _>>=_, given}
 use Rattle.frame.specs.Offsets.{allowed}
 use Rattle.header.specs.declared.Header.{Header}
@@ -15,7 +16,7 @@ use Rattle.table_readers.specs.Head.{openedAt}
 unfoldable pub openedWithin : List ℕ → ℕ → Outcome Opened
 openedWithin f place = do
   o ← openedAt f
-  given (allowed (o .header .start) (o .header .end) false place) 7 0 (answer o)
+  given (allowed (o .header .start) (o .header .end) false place) not-there (answer o)
 
 abbrev pub walk-in : Header → ℕ → ℕ → Walk
-walk-in h handles item = walkOf (frame-of h handles) item
+walk-in header handles item = walkOf (frame-of header handles) item

@@ -38,7 +38,7 @@ pub fn array(f: &[u8], place: usize) -> ArrayAnswer
         OpenedAnswer::Got(o) => {
             let h = o.header;
             array_body(
-                header::section_of(f, h),
+                header::up_to_end(f, h),
                 super::opening::walk_in(h, o.handles, place),
                 place,
             )
@@ -55,7 +55,7 @@ pub fn array_value(f: &[u8], place: usize, k: u32) -> PickedAnswer
         OpenedAnswer::Got(o) => {
             let h = o.header;
             value_bodies::array_value(
-                header::section_of(f, h),
+                header::up_to_end(f, h),
                 super::opening::walk_in(h, o.handles, place),
                 place,
                 k,
@@ -94,7 +94,7 @@ pub fn annotation_body(f: &[u8], place: usize) -> BodyAnswer
         OpenedAnswer::Got(o) => {
             let h = o.header;
             noted_body(
-                header::section_of(f, h),
+                header::up_to_end(f, h),
                 super::opening::walk_in(h, o.handles, place),
                 place,
             )
@@ -111,7 +111,7 @@ pub fn annotation_body_element(f: &[u8], place: usize, k: u32) -> ElementAnswer
         OpenedAnswer::Got(o) => {
             let h = o.header;
             value_bodies::annotation_element(
-                header::section_of(f, h),
+                header::up_to_end(f, h),
                 super::opening::walk_in(h, o.handles, place),
                 place,
                 k,

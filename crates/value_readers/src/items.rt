@@ -16,7 +16,7 @@ pub fn annotation(f: &[u8], place: usize) -> SummaryAnswer
         OpenedAnswer::Got(o) => {
             let h = o.header;
             annotation_items::annotation(
-                header::section_of(f, h),
+                header::up_to_end(f, h),
                 header::frame_of(h, o.handles),
                 place,
             )
@@ -33,7 +33,7 @@ pub fn annotation_element(f: &[u8], place: usize, k: u32) -> ElementAnswer
         OpenedAnswer::Got(o) => {
             let h = o.header;
             annotation_items::annotation_element(
-                header::section_of(f, h),
+                header::up_to_end(f, h),
                 header::frame_of(h, o.handles),
                 place,
                 k,

@@ -27,8 +27,8 @@ pub fn open_within(f: &[u8], place: usize) -> OpenedAnswer
 }
 
 // What the item at a place is read against.
-pub fn walk_in(h: Header, handles: u32, item: usize) -> Walk
-    ensures { λ r. ⌜ r ≡ walk-in h handles item ⌝ }
+pub fn walk_in(header: Header, handles: u32, item: usize) -> Walk
+    ensures { λ r. ⌜ r ≡ walk-in header handles item ⌝ }
 {
-    value_heads::walk_of(header::frame_of(h, handles), item)
+    value_heads::walk_of(header::frame_of(header, handles), item)
 }

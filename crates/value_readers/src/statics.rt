@@ -10,26 +10,26 @@ ghost use Rattle.value_bodies.specs.Answers.{count-outcome, picked-outcome};
 ghost use Rattle.value_readers.specs.Statics.{valuesIn, valuesUnder, staticCount, valueIn, valueUnder, staticValue};
 
 // How many values the array of a class has, 0 where it is absent.
-fn values_in(f: &[u8], h: Header, handles: u32, at: u32) -> BodySizeAnswer
-    ensures { λ r. ⌜ count-outcome r ≡ valuesIn (now (f .entry)) h handles at ⌝ }
+fn values_in(f: &[u8], header: Header, handles: u32, at: u32) -> BodySizeAnswer
+    ensures { λ r. ⌜ count-outcome r ≡ valuesIn (now (f .entry)) header handles at ⌝ }
 {
     let place = at as usize;
     if 0 < at {
         return value_bodies::array_count(
-            header::section_of(f, h),
-            super::opening::walk_in(h, handles, place),
+            header::up_to_end(f, header),
+            super::opening::walk_in(header, handles, place),
             place,
         );
     }
     BodySizeAnswer::Got(0)
 }
 
-fn values_under(f: &[u8], h: Header, handles: u32, c: u32) -> BodySizeAnswer
-    ensures { λ r. ⌜ count-outcome r ≡ valuesUnder (now (f .entry)) c h handles ⌝ }
+fn values_under(f: &[u8], header: Header, handles: u32, c: u32) -> BodySizeAnswer
+    ensures { λ r. ⌜ count-outcome r ≡ valuesUnder (now (f .entry)) c header handles ⌝ }
 {
-    match table_readers::class_in(f, h, c) {
+    match table_readers::class_in(f, header, c) {
         ClassAnswer::Refused(r) => BodySizeAnswer::Refused(r),
-        ClassAnswer::Got(found) => values_in(f, h, handles, found.values),
+        ClassAnswer::Got(found) => values_in(f, header, handles, found.values),
     }
 }
 
@@ -47,14 +47,14 @@ pub fn static_value_count(f: &[u8], c: u32) -> BodySizeAnswer
 }
 
 // Value k of the array of a class.
-fn value_in(f: &[u8], h: Header, handles: u32, at: u32, k: u32) -> PickedAnswer
-    ensures { λ r. ⌜ picked-outcome r ≡ valueIn (now (f .entry)) h handles at k ⌝ }
+fn value_in(f: &[u8], header: Header, handles: u32, at: u32, k: u32) -> PickedAnswer
+    ensures { λ r. ⌜ picked-outcome r ≡ valueIn (now (f .entry)) header handles at k ⌝ }
 {
     let place = at as usize;
     if 0 < at {
         return value_bodies::array_value(
-            header::section_of(f, h),
-            super::opening::walk_in(h, handles, place),
+            header::up_to_end(f, header),
+            super::opening::walk_in(header, handles, place),
             place,
             k,
         );
@@ -65,12 +65,12 @@ fn value_in(f: &[u8], h: Header, handles: u32, at: u32, k: u32) -> PickedAnswer
     })
 }
 
-fn value_under(f: &[u8], h: Header, handles: u32, c: u32, k: u32) -> PickedAnswer
-    ensures { λ r. ⌜ picked-outcome r ≡ valueUnder (now (f .entry)) c k h handles ⌝ }
+fn value_under(f: &[u8], header: Header, handles: u32, c: u32, k: u32) -> PickedAnswer
+    ensures { λ r. ⌜ picked-outcome r ≡ valueUnder (now (f .entry)) c k header handles ⌝ }
 {
-    match table_readers::class_in(f, h, c) {
+    match table_readers::class_in(f, header, c) {
         ClassAnswer::Refused(r) => PickedAnswer::Refused(r),
-        ClassAnswer::Got(found) => value_in(f, h, handles, found.values, k),
+        ClassAnswer::Got(found) => value_in(f, header, handles, found.values, k),
     }
 }
 

@@ -12,7 +12,7 @@ use Rattle.refusal.proofs.Kept.{kept, kept-part, kept-on, made-kept}
 use Rattle.frame.specs.declared.Frame.{Frame}
 use Rattle.header.specs.declared.Header.{Header}
 use Rattle.header.specs.declared.Table.{Table}
-use Rattle.header.specs.Header.{headerAt, frame-of}
+use Rattle.header.specs.Header.{headerAt, frame-of, plain-frame}
 use Rattle.header.proofs.Laws.{laws as header-laws}
 use Rattle.map_list.specs.declared.MapList.{MapList}
 use Rattle.map_list.specs.Map.{Map, mapAt, keptAt}
@@ -27,10 +27,10 @@ use Rattle.whole_check.specs.Passes.{typesPass, membersPass, handlesPass
 module _ (f : List ℕ) (h : Header) where
   -- a table that was read against the file's frame, r
   module _ {r : Frame} where
-    pub types-framed : (offset count : ℕ) {y : Outcome Unit} → r ≡ frame-of h 0 → y ≡ typesPass f r offset count → y ≡ typesPass f (frame-of h 0) offset count
+    pub types-framed : (offset count : ℕ) {y : Outcome Unit} → r ≡ plain-frame h → y ≡ typesPass f r offset count → y ≡ typesPass f (plain-frame h) offset count
     types-framed offset count g q = q ∙ ap (λ (x : Frame). typesPass f x offset count) g
 
-    pub members-framed : (kinds offset count : ℕ) {y : Outcome Unit} → r ≡ frame-of h 0 → y ≡ membersPass f r kinds offset count → y ≡ membersPass f (frame-of h 0) kinds offset count
+    pub members-framed : (kinds offset count : ℕ) {y : Outcome Unit} → r ≡ plain-frame h → y ≡ membersPass f r kinds offset count → y ≡ membersPass f (plain-frame h) kinds offset count
     members-framed kinds offset count g q = q ∙ ap (λ (x : Frame). membersPass f x kinds offset count) g
 
     pub handles-framed : (handles offset count : ℕ) {y : Outcome Unit} → r ≡ frame-of h handles → y ≡ handlesPass f r offset count → y ≡ handlesPass f (frame-of h handles) offset count
@@ -38,10 +38,10 @@ module _ (f : List ℕ) (h : Header) where
 
   -- the stages, told in the grouping of the code
   grouped : (t : Table) → tablesPass f h t ≡ (stringsChecked f h >>= λ (u : Unit).
-      typesPass f (frame-of h 0) (h .types .offset) (h .types .count) >>= λ (u : Unit).
+      typesPass f (plain-frame h) (h .types .offset) (h .types .count) >>= λ (u : Unit).
       protosPass f h (h .protos .count) >>= λ (u : Unit).
-      membersPass f (frame-of h 0) (h .types .count) (h .fields .offset) (h .fields .count) >>= λ (u : Unit).
-      membersPass f (frame-of h 0) (h .protos .count) (h .methods .offset) (h .methods .count) >>= λ (u : Unit).
+      membersPass f (plain-frame h) (h .types .count) (h .fields .offset) (h .fields .count) >>= λ (u : Unit).
+      membersPass f (plain-frame h) (h .protos .count) (h .methods .offset) (h .methods .count) >>= λ (u : Unit).
       handlesPass f (frame-of h (t .count)) (t .offset) (t .count) >>= λ (u : Unit).
       classesPass f h (t .count) (h .classes .count))
   unfolding tablesPass namesPass recordsPass itemsPass _>>=_
@@ -51,7 +51,7 @@ module _ (f : List ℕ) (h : Header) where
   unfolding tablesAt
   tables-kept m =
       kept-on (stringsAt f h) _ _ _ refl (λ a t.
-      kept-on (typesAt f (frame-of h 0) (h .types .offset) (h .types .count)) _ _ _ refl (λ b t.
+      kept-on (typesAt f (plain-frame h) (h .types .offset) (h .types .count)) _ _ _ refl (λ b t.
       kept-on (every (protoBelow f h) (h .protos .count)) _ _ _ refl (λ c t.
       kept-on (every (fieldAt f h) (h .fields .count)) _ _ _ refl (λ d t.
       kept-on (every (methodAt f h) (h .methods .count)) _ _ _ refl (λ e t.

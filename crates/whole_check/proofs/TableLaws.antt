@@ -10,6 +10,7 @@ use borrow.Author.Needs.{needs}
 use native.Mathlib.Omega.{arith}
 use mir.Syntax.{w32}
 use mir.Val.{Fits}
+use Rattle.refusal.specs.Refusals.{out-of-order}
 use Rattle.refusal.specs.declared.Refusal.{Refusal}
 use Rattle.refusal.specs.declared.CheckAnswer.{CheckAnswer}
 use Rattle.refusal.specs.declared.CheckAnswer.the-variants as C
@@ -21,7 +22,7 @@ use Rattle.refusal.proofs.Kept.{accepted-answer, accepted-refused}
 use Rattle.refusal.proofs.Loops.{Numbers, numbers-first, numbers-next, numbers-stop, numbers-done, Turns, turns-first, turns-next, turns-stop, turns-fail, turns-done}
 use Rattle.frame.specs.declared.Frame.{Frame}
 use Rattle.header.specs.declared.Header.{Header}
-use Rattle.header.specs.Header.{frame-of}
+use Rattle.header.specs.Header.{plain-frame}
 use Rattle.ids.specs.declared.Proto.{Proto}
 use Rattle.ids.specs.declared.IndexAnswer.{IndexAnswer}
 use Rattle.ids.specs.declared.IndexAnswer.the-variants as I
@@ -57,11 +58,11 @@ module _ {A : Type 0} {entry : ℕ → Outcome A} {count left k : ℕ} (h : Coun
 
 -- ---- types in turn
 pub record Typing (f : List ℕ) (r : Frame) (offset count left k : ℕ) (later : Bool) (last : ℕ) : Type 0 where
-  turns : Turns (typeAt f r offset) ltb 15 (λ (n : ℕ). offset + 4 * n) count left (record { number = k; last = last-of later last })
+  turns : Turns (typeAt f r offset) ltb (λ (n : ℕ). out-of-order (offset + 4 * n)) count left (record { number = k; last = last-of later last })
   sum : k + left ≡ count
 
 pub typing-first : (f : List ℕ) (r : Frame) (offset count : ℕ) → Typing f r offset count count 0 false 0
-typing-first f r offset count = record { turns = turns-first (typeAt f r offset) ltb 15 (λ (n : ℕ). offset + 4 * n) count; sum = omega arith }
+typing-first f r offset count = record { turns = turns-first (typeAt f r offset) ltb (λ (n : ℕ). out-of-order (offset + 4 * n)) count; sum = omega arith }
 
 module _ {f : List ℕ} {r : Frame} {offset count left k : ℕ} {later : Bool} {last : ℕ} (h : Typing f r offset count left k later last) where
   pub typing-fits : Fits w32 count → 0 < left → Fits w32 (k + 1)
@@ -80,9 +81,9 @@ module _ {f : List ℕ} {r : Frame} {offset count left k : ℕ} {later : Bool} {
       pub typing-next : b ≡ true → Typing f r offset count (left - 1) (k + 1) true n
       typing-next u = record { turns = turns-next (h .turns) l (sym (ap index-outcome t) ∙ e) (sym g ∙ u); sum = let s = h .sum in omega arith }
 
-      pub typing-fail : {p : ℕ} → b ≡ false → p ≡ offset + 4 * k → refused (record { number = 15; place = p }) ≡ (typesAt f r offset count >>= accepted)
+      pub typing-fail : {p : ℕ} → b ≡ false → p ≡ offset + 4 * k → refused (out-of-order p) ≡ (typesAt f r offset count >>= accepted)
       unfolding typesAt
-      typing-fail u q = ap (λ (x : ℕ). refused (record { number = 15; place = x })) q ∙ turns-fail (h .turns) accepted l (sym (ap index-outcome t) ∙ e) (sym g ∙ u)
+      typing-fail u q = ap (λ (x : ℕ). refused (out-of-order x)) q ∙ turns-fail (h .turns) accepted l (sym (ap index-outcome t) ∙ e) (sym g ∙ u)
 
 pub rises-later : {later : Bool} (last string : ℕ) → later ≡ true → ltb last string ≡ rising later last string
 unfolding follows
@@ -94,10 +95,10 @@ rises-first last string e = rw e
 
 -- ---- a proto with its parameters
 module _ (f : List ℕ) (h : Header) (n : ℕ) where
-  pub proto-by : {r : Frame} {y : Outcome Unit} → r ≡ frame-of h 0
+  pub proto-by : {r : Frame} {y : Outcome Unit} → r ≡ plain-frame h
       → y ≡ (protoAt f r (h .end) (h .protos .offset) n >>= λ (p : Proto). typesBelow f h (p .parameters) >>= accepted) → y ≡ (protoBelow f h n >>= accepted)
   unfolding protoBelow _>>=_
-  proto-by {r} g e = e ∙ (λ i. protoAt f (g i) (h .end) (h .protos .offset) n >>= λ (p : Proto). typesBelow f h (p .parameters) >>= accepted) ∙ go (protoAt f (frame-of h 0) (h .end) (h .protos .offset) n)
+  proto-by {r} g e = e ∙ (λ i. protoAt f (g i) (h .end) (h .protos .offset) n >>= λ (p : Proto). typesBelow f h (p .parameters) >>= accepted) ∙ go (protoAt f (plain-frame h) (h .end) (h .protos .offset) n)
     where
       made : Proto → Option (List ℕ) → Outcome ProtoBelow
       made p l = answer (record { own = p; parameters = l })

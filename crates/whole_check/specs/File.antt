@@ -5,7 +5,7 @@ use mathlib.Core.List.{List}
 use Rattle.refusal.specs.Outcome.{Outcome, answer, _>>=_, accepted}
 use Rattle.refusal.specs.Rows.{every}
 use Rattle.header.specs.declared.Header.{Header}
-use Rattle.header.specs.Header.{headerAt, frame-of}
+use Rattle.header.specs.Header.{headerAt, frame-of, plain-frame}
 use Rattle.map_list.specs.Map.{Map, mapAt}
 use Rattle.text.specs.Text.{Text}
 use Rattle.string_ids.specs.Strings.{stringsAt}
@@ -33,34 +33,34 @@ pub record File : Type 0 where
   pub handles : List Handle
   pub classes : List C.ClassBelow
 
-module _ (f : List ℕ) (h : Header) where
+module _ (f : List ℕ) (header : Header) where
   -- proto n: its record, then its parameter list
   unfoldable pub protoBelow : ℕ → Outcome ProtoBelow
   protoBelow n = do
-    p ← protoAt f (frame-of h 0) (h .end) (h .protos .offset) n
-    l ← typesBelow f h (p .parameters)
+    p ← protoAt f (plain-frame header) (header .end) (header .protos .offset) n
+    l ← typesBelow f header (p .parameters)
     answer (record { own = p; parameters = l })
 
   abbrev pub fieldAt : ℕ → Outcome MemberId
-  fieldAt = memberIdAt f (frame-of h 0) (h .types .count) (h .fields .offset)
+  fieldAt = memberIdAt f (plain-frame header) (header .types .count) (header .fields .offset)
 
   abbrev pub methodAt : ℕ → Outcome MemberId
-  methodAt = memberIdAt f (frame-of h 0) (h .protos .count) (h .methods .offset)
+  methodAt = memberIdAt f (plain-frame header) (header .protos .count) (header .methods .offset)
 
   abbrev pub handleIn : Map → ℕ → Outcome Handle
-  handleIn m = handleAt f (frame-of h (m .handles .count)) (m .handles .offset)
+  handleIn m = handleAt f (frame-of header (m .handles .count)) (m .handles .offset)
 
   -- "strings; types; protos with their parameter lists; fields; methods; handles; classes by number"
   unfoldable pub tablesAt : Map → Outcome File
   tablesAt m = do
-    strings ← stringsAt f h
-    types ← typesAt f (frame-of h 0) (h .types .offset) (h .types .count)
-    protos ← every protoBelow (h .protos .count)
-    fields ← every fieldAt (h .fields .count)
-    methods ← every methodAt (h .methods .count)
+    strings ← stringsAt f header
+    types ← typesAt f (plain-frame header) (header .types .offset) (header .types .count)
+    protos ← every protoBelow (header .protos .count)
+    fields ← every fieldAt (header .fields .count)
+    methods ← every methodAt (header .methods .count)
     handles ← every (handleIn m) (m .handles .count)
-    classes ← every (C.classBelow f h (m .handles .count)) (h .classes .count)
-    answer (record { header = h; map = m; strings = strings; types = types; protos = protos; fields = fields; methods = methods; handles = handles; classes = classes })
+    classes ← every (C.classBelow f header (m .handles .count)) (header .classes .count)
+    answer (record { header = header; map = m; strings = strings; types = types; protos = protos; fields = fields; methods = methods; handles = handles; classes = classes })
 
 -- "Header; map; .."
 unfoldable pub fileAt : List ℕ → Outcome File

@@ -9,7 +9,7 @@ use Rattle.refusal.specs.Rows.{every, follows}
 use Rattle.frame.specs.declared.Frame.{Frame}
 use Rattle.header.specs.declared.Header.{Header}
 use Rattle.header.specs.declared.Table.{Table}
-use Rattle.header.specs.Header.{frame-of}
+use Rattle.header.specs.Header.{frame-of, plain-frame}
 use Rattle.map_list.specs.Map.{keptAt}
 use Rattle.ids.specs.Records.{typesAt, memberIdAt, handleAt}
 use Rattle.string_ids.specs.Strings.{stringsChecked}
@@ -24,45 +24,45 @@ abbrev pub rising : Bool → ℕ → ℕ → Bool
 rising later last string = follows ltb (last-of later last) string
 
 abbrev pub typesPass : List ℕ → Frame → ℕ → ℕ → Outcome Unit
-typesPass f r offset count = typesAt f r offset count >>= accepted
+typesPass f frame offset count = typesAt f frame offset count >>= accepted
 
 abbrev pub membersPass : List ℕ → Frame → ℕ → ℕ → ℕ → Outcome Unit
-membersPass f r kinds offset count = every (memberIdAt f r kinds offset) count >>= accepted
+membersPass f frame kinds offset count = every (memberIdAt f frame kinds offset) count >>= accepted
 
 abbrev pub handlePass : List ℕ → Frame → ℕ → ℕ → Outcome Unit
-handlePass f r offset n = handleAt f r offset n >>= accepted
+handlePass f frame offset n = handleAt f frame offset n >>= accepted
 
 abbrev pub handlesPass : List ℕ → Frame → ℕ → ℕ → Outcome Unit
-handlesPass f r offset count = every (handleAt f r offset) count >>= accepted
+handlesPass f frame offset count = every (handleAt f frame offset) count >>= accepted
 
-module _ (f : List ℕ) (h : Header) where
+module _ (f : List ℕ) (header : Header) where
   abbrev pub protoPass : ℕ → Outcome Unit
-  protoPass n = protoBelow f h n >>= accepted
+  protoPass n = protoBelow f header n >>= accepted
 
   abbrev pub protosPass : ℕ → Outcome Unit
-  protosPass count = every (protoBelow f h) count >>= accepted
+  protosPass count = every (protoBelow f header) count >>= accepted
 
   abbrev pub classesPass : ℕ → ℕ → Outcome Unit
-  classesPass handles count = every (C.classBelow f h handles) count >>= accepted
+  classesPass handles count = every (C.classBelow f header handles) count >>= accepted
 
   -- strings, types, protos
   unfoldable pub namesPass : Outcome Unit
   namesPass = do
-    u ← stringsChecked f h
-    u ← typesPass f (frame-of h 0) (h .types .offset) (h .types .count)
-    protosPass (h .protos .count)
+    u ← stringsChecked f header
+    u ← typesPass f (plain-frame header) (header .types .offset) (header .types .count)
+    protosPass (header .protos .count)
 
   -- fields, methods
   unfoldable pub recordsPass : Outcome Unit
   recordsPass = do
-    u ← membersPass f (frame-of h 0) (h .types .count) (h .fields .offset) (h .fields .count)
-    membersPass f (frame-of h 0) (h .protos .count) (h .methods .offset) (h .methods .count)
+    u ← membersPass f (plain-frame header) (header .types .count) (header .fields .offset) (header .fields .count)
+    membersPass f (plain-frame header) (header .protos .count) (header .methods .offset) (header .methods .count)
 
   -- handles, classes
   unfoldable pub itemsPass : Table → Outcome Unit
   itemsPass t = do
-    u ← handlesPass f (frame-of h (t .count)) (t .offset) (t .count)
-    classesPass (t .count) (h .classes .count)
+    u ← handlesPass f (frame-of header (t .count)) (t .offset) (t .count)
+    classesPass (t .count) (header .classes .count)
 
   unfoldable pub tablesPass : Table → Outcome Unit
   tablesPass t = do
@@ -71,9 +71,9 @@ module _ (f : List ℕ) (h : Header) where
     itemsPass t
 
   unfoldable pub passIn : Outcome Unit
-  passIn = keptAt f h >>= λ m. tablesPass (m .handles)
+  passIn = keptAt f header >>= λ m. tablesPass (m .handles)
 
   unfoldable pub verdictIn : Outcome Header
   verdictIn = do
     u ← passIn
-    answer h
+    answer header

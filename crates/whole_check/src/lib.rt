@@ -14,31 +14,31 @@ ghost use Rattle.whole_check.specs.Passes.{namesPass, recordsPass, items
 mod tables;
 
 // Strings, types, and protos with their parameters.
-fn names_pass(f: &[u8], h: Header) -> CheckAnswer
-    ensures { λ r. ⌜ checked-outcome r ≡ namesPass (now (f .entry)) h ⌝ }
+fn names_pass(f: &[u8], header: Header) -> CheckAnswer
+    ensures { λ r. ⌜ checked-outcome r ≡ namesPass (now (f .entry)) header ⌝ }
 {
-    let types = h.types;
-    let protos = h.protos;
-    match string_ids::check_strings(f, h) {
+    let types = header.types;
+    let protos = header.protos;
+    match string_ids::check_strings(f, header) {
         CheckAnswer::Refused(r) => CheckAnswer::Refused(r),
         CheckAnswer::Accepted => {
-            match tables::types_pass(f, header::frame_of(h, 0), types.offset, types.count) {
+            match tables::types_pass(f, header::frame_of(header, 0), types.offset, types.count) {
                 CheckAnswer::Refused(r) => CheckAnswer::Refused(r),
-                CheckAnswer::Accepted => tables::protos_pass(f, h, protos.count),
+                CheckAnswer::Accepted => tables::protos_pass(f, header, protos.count),
             }
         }
     }
 }
 
 // Fields and methods.
-fn records_pass(f: &[u8], h: Header) -> CheckAnswer
-    ensures { λ r. ⌜ checked-outcome r ≡ recordsPass (now (f .entry)) h ⌝ }
+fn records_pass(f: &[u8], header: Header) -> CheckAnswer
+    ensures { λ r. ⌜ checked-outcome r ≡ recordsPass (now (f .entry)) header ⌝ }
 {
-    let types = h.types;
-    let protos = h.protos;
-    let fields = h.fields;
-    let methods = h.methods;
-    let frame = header::frame_of(h, 0);
+    let types = header.types;
+    let protos = header.protos;
+    let fields = header.fields;
+    let methods = header.methods;
+    let frame = header::frame_of(header, 0);
     match tables::members_pass(f, frame, types.count, fields.offset, fields.count) {
         CheckAnswer::Refused(r) => CheckAnswer::Refused(r),
         CheckAnswer::Accepted => {
@@ -48,47 +48,47 @@ fn records_pass(f: &[u8], h: Header) -> CheckAnswer
 }
 
 // Method handles, and classes with all below them.
-fn items_pass(f: &[u8], h: Header, t: Table) -> CheckAnswer
-    ensures { λ r. ⌜ checked-outcome r ≡ itemsPass (now (f .entry)) h t ⌝ }
+fn items_pass(f: &[u8], header: Header, t: Table) -> CheckAnswer
+    ensures { λ r. ⌜ checked-outcome r ≡ itemsPass (now (f .entry)) header t ⌝ }
 {
-    let classes = h.classes;
-    match tables::handles_pass(f, header::frame_of(h, t.count), t.offset, t.count) {
+    let classes = header.classes;
+    match tables::handles_pass(f, header::frame_of(header, t.count), t.offset, t.count) {
         CheckAnswer::Refused(r) => CheckAnswer::Refused(r),
-        CheckAnswer::Accepted => tables::classes_pass(f, h, t.count, classes.count),
+        CheckAnswer::Accepted => tables::classes_pass(f, header, t.count, classes.count),
     }
 }
 
-fn tables_pass(f: &[u8], h: Header, t: Table) -> CheckAnswer
-    ensures { λ r. ⌜ checked-outcome r ≡ tablesPass (now (f .entry)) h t ⌝ }
+fn tables_pass(f: &[u8], header: Header, t: Table) -> CheckAnswer
+    ensures { λ r. ⌜ checked-outcome r ≡ tablesPass (now (f .entry)) header t ⌝ }
 {
-    match names_pass(f, h) {
+    match names_pass(f, header) {
         CheckAnswer::Refused(r) => CheckAnswer::Refused(r),
-        CheckAnswer::Accepted => match records_pass(f, h) {
+        CheckAnswer::Accepted => match records_pass(f, header) {
             CheckAnswer::Refused(r) => CheckAnswer::Refused(r),
-            CheckAnswer::Accepted => items_pass(f, h, t),
+            CheckAnswer::Accepted => items_pass(f, header, t),
         },
     }
 }
 
-fn check_in(f: &[u8], h: Header) -> CheckAnswer
-    ensures { λ r. ⌜ checked-outcome r ≡ passIn (now (f .entry)) h ⌝ }
+fn check_in(f: &[u8], header: Header) -> CheckAnswer
+    ensures { λ r. ⌜ checked-outcome r ≡ passIn (now (f .entry)) header ⌝ }
 {
-    match map_list::map_of(f, h) {
+    match map_list::map_of(f, header) {
         MapAnswer::Refused(r) => CheckAnswer::Refused(r),
         MapAnswer::Got(m) => {
             let t = m.handles;
-            tables_pass(f, h, t)
+            tables_pass(f, header, t)
         }
     }
 }
 
 // A file with a good header: what the rest comes to.
-fn verdict_in(f: &[u8], h: Header) -> Verdict
-    ensures { λ r. ⌜ verdict-outcome r ≡ verdictIn (now (f .entry)) h ⌝ }
+fn verdict_in(f: &[u8], header: Header) -> Verdict
+    ensures { λ r. ⌜ verdict-outcome r ≡ verdictIn (now (f .entry)) header ⌝ }
 {
-    match check_in(f, h) {
+    match check_in(f, header) {
         CheckAnswer::Refused(r) => Verdict::Refused(r),
-        CheckAnswer::Accepted => Verdict::Accepted(h),
+        CheckAnswer::Accepted => Verdict::Accepted(header),
     }
 }
 

@@ -29,15 +29,15 @@ fn place_of(offset: u32, n: u32) -> usize
 }
 
 // All types, each by its own rule and then by its order.
-pub fn types_pass(f: &[u8], r: Frame, offset: u32, count: u32) -> CheckAnswer
-    ensures { λ a. ⌜ checked-outcome a ≡ typesPass (now (f .entry)) r offset count ⌝ }
+pub fn types_pass(f: &[u8], frame: Frame, offset: u32, count: u32) -> CheckAnswer
+    ensures { λ a. ⌜ checked-outcome a ≡ typesPass (now (f .entry)) frame offset count ⌝ }
 {
     let mut later = false;
     let mut last: u32 = 0;
     let mut k: u32 = 0;
     let mut left = count;
     while 0 < left {
-        match ids::type_at(f, r, offset, k) {
+        match ids::type_at(f, frame, offset, k) {
             IndexAnswer::Refused(a) => {
                 return CheckAnswer::Refused(a);
             }
@@ -60,23 +60,23 @@ pub fn types_pass(f: &[u8], r: Frame, offset: u32, count: u32) -> CheckAnswer
 }
 
 // Proto n with its parameter list.
-fn proto_pass(f: &[u8], h: Header, n: u32) -> CheckAnswer
-    ensures { λ r. ⌜ checked-outcome r ≡ protoPass (now (f .entry)) h n ⌝ }
+fn proto_pass(f: &[u8], header: Header, n: u32) -> CheckAnswer
+    ensures { λ r. ⌜ checked-outcome r ≡ protoPass (now (f .entry)) header n ⌝ }
 {
-    let t = h.protos;
-    match ids::proto_at(f, header::frame_of(h, 0), h.end, t.offset, n) {
+    let t = header.protos;
+    match ids::proto_at(f, header::frame_of(header, 0), header.end, t.offset, n) {
         ProtoAnswer::Refused(r) => CheckAnswer::Refused(r),
-        ProtoAnswer::Got(p) => type_list::check_types(f, h, p.parameters),
+        ProtoAnswer::Got(p) => type_list::check_types(f, header, p.parameters),
     }
 }
 
-pub fn protos_pass(f: &[u8], h: Header, count: u32) -> CheckAnswer
-    ensures { λ r. ⌜ checked-outcome r ≡ protosPass (now (f .entry)) h count ⌝ }
+pub fn protos_pass(f: &[u8], header: Header, count: u32) -> CheckAnswer
+    ensures { λ r. ⌜ checked-outcome r ≡ protosPass (now (f .entry)) header count ⌝ }
 {
     let mut k: u32 = 0;
     let mut left = count;
     while 0 < left {
-        match proto_pass(f, h, k) {
+        match proto_pass(f, header, k) {
             CheckAnswer::Refused(r) => {
                 return CheckAnswer::Refused(r);
             }
@@ -90,13 +90,13 @@ pub fn protos_pass(f: &[u8], h: Header, count: u32) -> CheckAnswer
 }
 
 // The fields or the methods: `kinds` counts types for fields, protos for methods.
-pub fn members_pass(f: &[u8], r: Frame, kinds: u32, offset: u32, count: u32) -> CheckAnswer
-    ensures { λ a. ⌜ checked-outcome a ≡ membersPass (now (f .entry)) r kinds offset count ⌝ }
+pub fn members_pass(f: &[u8], frame: Frame, kinds: u32, offset: u32, count: u32) -> CheckAnswer
+    ensures { λ a. ⌜ checked-outcome a ≡ membersPass (now (f .entry)) frame kinds offset count ⌝ }
 {
     let mut k: u32 = 0;
     let mut left = count;
     while 0 < left {
-        match ids::check_member(f, r, kinds, offset, k) {
+        match ids::check_member(f, frame, kinds, offset, k) {
             CheckAnswer::Refused(a) => {
                 return CheckAnswer::Refused(a);
             }
@@ -109,22 +109,22 @@ pub fn members_pass(f: &[u8], r: Frame, kinds: u32, offset: u32, count: u32) -> 
     CheckAnswer::Accepted
 }
 
-fn handle_pass(f: &[u8], r: Frame, offset: u32, n: u32) -> CheckAnswer
-    ensures { λ a. ⌜ checked-outcome a ≡ handlePass (now (f .entry)) r offset n ⌝ }
+fn handle_pass(f: &[u8], frame: Frame, offset: u32, n: u32) -> CheckAnswer
+    ensures { λ a. ⌜ checked-outcome a ≡ handlePass (now (f .entry)) frame offset n ⌝ }
 {
-    match ids::handle_at(f, r, offset, n) {
+    match ids::handle_at(f, frame, offset, n) {
         HandleAnswer::Refused(a) => CheckAnswer::Refused(a),
         HandleAnswer::Got(_) => CheckAnswer::Accepted,
     }
 }
 
-pub fn handles_pass(f: &[u8], r: Frame, offset: u32, count: u32) -> CheckAnswer
-    ensures { λ a. ⌜ checked-outcome a ≡ handlesPass (now (f .entry)) r offset count ⌝ }
+pub fn handles_pass(f: &[u8], frame: Frame, offset: u32, count: u32) -> CheckAnswer
+    ensures { λ a. ⌜ checked-outcome a ≡ handlesPass (now (f .entry)) frame offset count ⌝ }
 {
     let mut k: u32 = 0;
     let mut left = count;
     while 0 < left {
-        match handle_pass(f, r, offset, k) {
+        match handle_pass(f, frame, offset, k) {
             CheckAnswer::Refused(a) => {
                 return CheckAnswer::Refused(a);
             }
@@ -138,13 +138,13 @@ pub fn handles_pass(f: &[u8], r: Frame, offset: u32, count: u32) -> CheckAnswer
 }
 
 // All classes, each with all below it.
-pub fn classes_pass(f: &[u8], h: Header, handles: u32, count: u32) -> CheckAnswer
-    ensures { λ r. ⌜ checked-outcome r ≡ classesPass (now (f .entry)) h handles count ⌝ }
+pub fn classes_pass(f: &[u8], header: Header, handles: u32, count: u32) -> CheckAnswer
+    ensures { λ r. ⌜ checked-outcome r ≡ classesPass (now (f .entry)) header handles count ⌝ }
 {
     let mut k: u32 = 0;
     let mut left = count;
     while 0 < left {
-        match class_walk::check_class(f, h, handles, k) {
+        match class_walk::check_class(f, header, handles, k) {
             CheckAnswer::Refused(r) => {
                 return CheckAnswer::Refused(r);
             }

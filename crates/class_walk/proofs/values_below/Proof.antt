@@ -7,7 +7,7 @@ use Rattle.class_walk.proofs.values_below.Lts as lts
 use Rattle.encoded_value.proofs.top_array.Reads as top-array-reads
 use Rattle.value_heads.proofs.walk_of.Reads as walk-of-reads
 use Rattle.header.proofs.frame_of.Reads as frame-of-reads
-use Rattle.header.proofs.section_of.Reads as section-of-reads
+use Rattle.header.proofs.up_to_end.Reads as up-to-end-reads
 
 returns : tie.Need-returns
 unfolding staticsAt
@@ -19,8 +19,8 @@ frame-of-requires c κs = search laws depth 8
 walk-of-requires : tie.Need-walk-of-requires
 walk-of-requires c κs = search laws depth 8
 
-section-of-requires : tie.Need-section-of-requires
-section-of-requires c κs = search laws depth 8
+up-to-end-requires : tie.Need-up-to-end-requires
+up-to-end-requires c κs = search laws depth 8
 
 top-array-requires : tie.Need-top-array-requires
 top-array-requires c κs = search laws depth 8
@@ -46,7 +46,7 @@ values-below-spec =
     returns
     frame-of-requires
     walk-of-requires
-    section-of-requires
+    up-to-end-requires
     top-array-requires
     enum-known-r
     enum-told

@@ -3,11 +3,11 @@ use Rattle.map_list.proofs.entry_number.Statement.{statement}
 use Rattle.map_list.proofs.entry_number.Tie as tie
 use Rattle.map_list.proofs.entry_number.Reads as reads
 use Rattle.map_list.proofs.entry_number.Lts as lts
-use Rattle.header.proofs.section_of.Reads as section-of-reads
+use Rattle.header.proofs.up_to_end.Reads as up-to-end-reads
 use Rattle.map_list.proofs.entry_at.Reads as entry-at-reads
 
-section-of-requires : tie.Need-section-of-requires
-section-of-requires c κs = search laws
+up-to-end-requires : tie.Need-up-to-end-requires
+up-to-end-requires c κs = search laws
 
 returns : tie.Need-returns
 returns c = search laws
@@ -31,7 +31,7 @@ pub entry-number-spec : {M : Type 1} → statement M
 entry-number-spec =
     tie.close
     (tie.spec
-    section-of-requires
+    up-to-end-requires
     returns
     add-entry-at
     mul-entry-at

@@ -4,11 +4,11 @@ use Rattle.map_list.proofs.map_of.Tie as tie
 use Rattle.map_list.proofs.map_of.Reads as reads
 use Rattle.map_list.proofs.map_of.Lts as lts
 use Rattle.frame.proofs.is_allowed.Reads as is-allowed-reads
-use Rattle.header.proofs.section_of.Reads as section-of-reads
+use Rattle.header.proofs.up_to_end.Reads as up-to-end-reads
 use Rattle.map_list.proofs.list_at.Reads as list-at-reads
 
-section-of-requires : tie.Need-section-of-requires
-section-of-requires c κs = search laws
+up-to-end-requires : tie.Need-up-to-end-requires
+up-to-end-requires c κs = search laws
 
 is-allowed-requires : tie.Need-is-allowed-requires
 is-allowed-requires c κs = search laws
@@ -24,4 +24,4 @@ returns-2 c = search laws
 
 pub map-of-spec : {M : Type 1} → statement M
 map-of-spec =
-    tie.close (tie.spec section-of-requires is-allowed-requires list-at-requires returns returns-2)
+    tie.close (tie.spec up-to-end-requires is-allowed-requires list-at-requires returns returns-2)

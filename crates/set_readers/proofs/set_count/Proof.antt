@@ -6,10 +6,10 @@ use Rattle.set_readers.proofs.set_count.Reads as reads
 use Rattle.set_readers.proofs.set_count.Lts as lts
 use Rattle.annotation_lists.proofs.set_count.Reads as set-count-reads
 use Rattle.header.proofs.frame_of.Reads as frame-of-reads
-use Rattle.header.proofs.section_of.Reads as section-of-reads
+use Rattle.header.proofs.up_to_end.Reads as up-to-end-reads
 
-section-of-requires : tie.Need-section-of-requires
-section-of-requires c κs = search laws
+up-to-end-requires : tie.Need-up-to-end-requires
+up-to-end-requires c κs = search laws
 
 frame-of-requires : tie.Need-frame-of-requires
 frame-of-requires c κs = search laws
@@ -27,4 +27,4 @@ returns-2 c = search laws
 
 pub set-count-spec : {M : Type 1} → statement M
 set-count-spec =
-    tie.close (tie.spec section-of-requires frame-of-requires set-count-requires returns returns-2)
+    tie.close (tie.spec up-to-end-requires frame-of-requires set-count-requires returns returns-2)

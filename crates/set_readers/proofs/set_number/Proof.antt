@@ -6,10 +6,10 @@ use Rattle.set_readers.proofs.set_number.Reads as reads
 use Rattle.set_readers.proofs.set_number.Lts as lts
 use Rattle.annotation_lists.proofs.set_offset.Reads as set-offset-reads
 use Rattle.header.proofs.frame_of.Reads as frame-of-reads
-use Rattle.header.proofs.section_of.Reads as section-of-reads
+use Rattle.header.proofs.up_to_end.Reads as up-to-end-reads
 
-section-of-requires : tie.Need-section-of-requires
-section-of-requires c κs = search laws
+up-to-end-requires : tie.Need-up-to-end-requires
+up-to-end-requires c κs = search laws
 
 frame-of-requires : tie.Need-frame-of-requires
 frame-of-requires c κs = search laws
@@ -28,4 +28,4 @@ returns-2 c = search laws
 pub set-number-spec : {M : Type 1} → statement M
 set-number-spec =
     tie.close
-    (tie.spec section-of-requires frame-of-requires set-offset-requires returns returns-2)
+    (tie.spec up-to-end-requires frame-of-requires set-offset-requires returns returns-2)

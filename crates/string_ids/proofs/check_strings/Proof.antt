@@ -4,7 +4,7 @@ use Rattle.string_ids.proofs.check_strings.Statement.{statement}
 use Rattle.string_ids.proofs.check_strings.Tie as tie
 use Rattle.string_ids.proofs.check_strings.Reads as reads
 use Rattle.string_ids.proofs.check_strings.Lts as lts
-use Rattle.header.proofs.section_of.Reads as section-of-reads
+use Rattle.header.proofs.up_to_end.Reads as up-to-end-reads
 use Rattle.string_ids.proofs.place_of.Reads as place-of-reads
 use Rattle.string_ids.proofs.rises.Reads as rises-reads
 use Rattle.string_ids.proofs.string_at.Reads as string-at-reads
@@ -15,8 +15,8 @@ Inv-loop f h s last₀ n₀ more₀ last n more = Checking f h s more n last
 abbrev μ-loop : tie.MeasureT-loop
 μ-loop f h s last₀ n₀ more₀ last n more = more
 
-section-of-requires : tie.Need-section-of-requires Inv-loop μ-loop
-section-of-requires c κs = search laws
+up-to-end-requires : tie.Need-up-to-end-requires Inv-loop μ-loop
+up-to-end-requires c κs = search laws
 
 loop-holds : tie.Need-loop-holds Inv-loop μ-loop
 loop-holds c = search laws
@@ -63,7 +63,7 @@ check-strings-spec =
     (tie.spec
     Inv-loop
     μ-loop
-    section-of-requires
+    up-to-end-requires
     loop-holds
     string-at-requires
     enum-known-r

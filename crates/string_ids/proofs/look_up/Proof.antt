@@ -3,7 +3,7 @@ use Rattle.string_ids.proofs.look_up.Statement.{statement}
 use Rattle.string_ids.proofs.look_up.Tie as tie
 use Rattle.string_ids.proofs.look_up.Reads as reads
 use Rattle.string_ids.proofs.look_up.Lts as lts
-use Rattle.header.proofs.section_of.Reads as section-of-reads
+use Rattle.header.proofs.up_to_end.Reads as up-to-end-reads
 use Rattle.string_ids.proofs.found_with.Reads as found-with-reads
 use Rattle.string_ids.proofs.place_of.Reads as place-of-reads
 use Rattle.string_ids.proofs.rises.Reads as rises-reads
@@ -16,8 +16,8 @@ Inv-loop f h text s last₀ found₀ k₀ left₀ last found k left = Looking f 
 abbrev μ-loop : tie.MeasureT-loop
 μ-loop f h text s last₀ found₀ k₀ left₀ last found k left = left
 
-section-of-requires : tie.Need-section-of-requires Inv-loop μ-loop
-section-of-requires c κs = search laws
+up-to-end-requires : tie.Need-up-to-end-requires Inv-loop μ-loop
+up-to-end-requires c κs = search laws
 
 loop-holds : tie.Need-loop-holds Inv-loop μ-loop
 loop-holds c = search laws
@@ -70,7 +70,7 @@ look-up-spec =
     (tie.spec
     Inv-loop
     μ-loop
-    section-of-requires
+    up-to-end-requires
     loop-holds
     string-at-requires
     enum-known-r

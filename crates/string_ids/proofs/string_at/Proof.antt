@@ -3,7 +3,7 @@ use Rattle.string_ids.proofs.string_at.Statement.{statement}
 use Rattle.string_ids.proofs.string_at.Tie as tie
 use Rattle.string_ids.proofs.string_at.Reads as reads
 use Rattle.string_ids.proofs.string_at.Lts as lts
-use Rattle.header.proofs.section_of.Reads as section-of-reads
+use Rattle.header.proofs.up_to_end.Reads as up-to-end-reads
 use Rattle.string_ids.proofs.record_at.Reads as record-at-reads
 use Rattle.text.proofs.string_at.Reads as string-at-reads
 
@@ -16,8 +16,8 @@ enum-known-r c = search laws
 enum-known-item : tie.Need-enum-known-item
 enum-known-item c = search laws
 
-section-of-requires : tie.Need-section-of-requires
-section-of-requires c κs = search laws
+up-to-end-requires : tie.Need-up-to-end-requires
+up-to-end-requires c κs = search laws
 
 string-at-requires : tie.Need-string-at-requires
 string-at-requires c κs = search laws
@@ -35,7 +35,7 @@ string-at-spec =
     record-at-requires
     enum-known-r
     enum-known-item
-    section-of-requires
+    up-to-end-requires
     string-at-requires
     returns
     returns-2)

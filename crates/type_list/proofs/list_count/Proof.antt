@@ -4,11 +4,11 @@ use Rattle.type_list.proofs.list_count.Statement.{statement}
 use Rattle.type_list.proofs.list_count.Tie as tie
 use Rattle.type_list.proofs.list_count.Reads as reads
 use Rattle.type_list.proofs.list_count.Lts as lts
-use Rattle.header.proofs.section_of.Reads as section-of-reads
+use Rattle.header.proofs.up_to_end.Reads as up-to-end-reads
 use Rattle.type_list.proofs.count_at.Reads as count-at-reads
 
-section-of-requires : tie.Need-section-of-requires
-section-of-requires c κs = search laws
+up-to-end-requires : tie.Need-up-to-end-requires
+up-to-end-requires c κs = search laws
 
 count-at-requires : tie.Need-count-at-requires
 count-at-requires c κs = search laws
@@ -22,4 +22,4 @@ unfolding listCount
 returns-2 c = search laws
 
 pub list-count-spec : {M : Type 1} → statement M
-list-count-spec = tie.close (tie.spec section-of-requires count-at-requires returns returns-2)
+list-count-spec = tie.close (tie.spec up-to-end-requires count-at-requires returns returns-2)

@@ -4,12 +4,12 @@ use Rattle.code_readers.proofs.methods.cover_under.Statement.{statement
 use Rattle.code_readers.proofs.methods.cover_under.Tie as tie
 use Rattle.code_readers.proofs.methods.cover_under.Reads as reads
 use Rattle.code_readers.proofs.methods.cover_under.Lts as lts
-use Rattle.header.proofs.section_of.Reads as section-of-reads
+use Rattle.header.proofs.up_to_end.Reads as up-to-end-reads
 use Rattle.header.proofs.frame_of.Reads as frame-of-reads
 use Rattle.code_item.proofs.covering_try.Reads as covering-try-reads
 
-section-of-requires : tie.Need-section-of-requires
-section-of-requires c κs = search laws
+up-to-end-requires : tie.Need-up-to-end-requires
+up-to-end-requires c κs = search laws
 
 frame-of-requires : tie.Need-frame-of-requires
 frame-of-requires c κs = search laws
@@ -25,4 +25,4 @@ unfolding coverUnder
 returns c = search laws
 
 pub cover-under-spec : {M : Type 1} → statement M
-cover-under-spec = tie.close (tie.spec section-of-requires frame-of-requires cast-covering-try covering-try-requires returns)
+cover-under-spec = tie.close (tie.spec up-to-end-requires frame-of-requires cast-covering-try covering-try-requires returns)

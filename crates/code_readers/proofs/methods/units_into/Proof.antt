@@ -4,11 +4,11 @@ use Rattle.code_readers.proofs.methods.units_into.Statement.{statement}
 use Rattle.code_readers.proofs.methods.units_into.Tie as tie
 use Rattle.code_readers.proofs.methods.units_into.Reads as reads
 use Rattle.code_readers.proofs.methods.units_into.Lts as lts
-use Rattle.header.proofs.section_of.Reads as section-of-reads
+use Rattle.header.proofs.up_to_end.Reads as up-to-end-reads
 use Rattle.code_units.proofs.units_into.Reads as units-into-reads
 
-section-of-requires : tie.Need-section-of-requires
-section-of-requires c κs = search laws
+up-to-end-requires : tie.Need-up-to-end-requires
+up-to-end-requires c κs = search laws
 
 cast-units-into : tie.Need-cast-units-into
 cast-units-into c = search laws
@@ -43,4 +43,4 @@ unfolding unitsInto unitsWritten
 returns-2 c = search laws
 
 pub units-into-spec : {M : Type 1} → statement M
-units-into-spec = tie.close (tie.spec section-of-requires cast-units-into add-units-into units-into-requires enum-known-r enum-known-n cast-t16 same-length returns same-length-2 returns-2)
+units-into-spec = tie.close (tie.spec up-to-end-requires cast-units-into add-units-into units-into-requires enum-known-r enum-known-n cast-t16 same-length returns same-length-2 returns-2)

@@ -4,11 +4,11 @@ use Rattle.debug_readers.proofs.lines.extent_under.Statement.{statement
 use Rattle.debug_readers.proofs.lines.extent_under.Tie as tie
 use Rattle.debug_readers.proofs.lines.extent_under.Reads as reads
 use Rattle.debug_readers.proofs.lines.extent_under.Lts as lts
-use Rattle.header.proofs.section_of.Reads as section-of-reads
+use Rattle.header.proofs.up_to_end.Reads as up-to-end-reads
 use Rattle.debug_info.proofs.debug_at.Reads as debug-at-reads
 
-section-of-requires : tie.Need-section-of-requires
-section-of-requires c κs = search laws
+up-to-end-requires : tie.Need-up-to-end-requires
+up-to-end-requires c κs = search laws
 
 cast-debug-at : tie.Need-cast-debug-at
 cast-debug-at c = search laws
@@ -31,4 +31,4 @@ unfolding extentUnder
 returns-2 c = search laws
 
 pub extent-under-spec : {M : Type 1} → statement M
-extent-under-spec = tie.close (tie.spec section-of-requires cast-debug-at debug-at-requires enum-known-r enum-known-line returns returns-2)
+extent-under-spec = tie.close (tie.spec up-to-end-requires cast-debug-at debug-at-requires enum-known-r enum-known-line returns returns-2)

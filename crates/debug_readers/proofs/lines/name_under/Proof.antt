@@ -4,11 +4,11 @@ use Rattle.debug_readers.proofs.lines.name_under.Statement.{statement}
 use Rattle.debug_readers.proofs.lines.name_under.Tie as tie
 use Rattle.debug_readers.proofs.lines.name_under.Reads as reads
 use Rattle.debug_readers.proofs.lines.name_under.Lts as lts
-use Rattle.header.proofs.section_of.Reads as section-of-reads
+use Rattle.header.proofs.up_to_end.Reads as up-to-end-reads
 use Rattle.debug_info.proofs.name_at.Reads as name-at-reads
 
-section-of-requires : tie.Need-section-of-requires
-section-of-requires c κs = search laws
+up-to-end-requires : tie.Need-up-to-end-requires
+up-to-end-requires c κs = search laws
 
 cast-name-at : tie.Need-cast-name-at
 cast-name-at c = search laws
@@ -31,4 +31,4 @@ unfolding nameUnder
 returns-2 c = search laws
 
 pub name-under-spec : {M : Type 1} → statement M
-name-under-spec = tie.close (tie.spec section-of-requires cast-name-at name-at-requires enum-known-r enum-known-name returns returns-2)
+name-under-spec = tie.close (tie.spec up-to-end-requires cast-name-at name-at-requires enum-known-r enum-known-name returns returns-2)

@@ -4,11 +4,11 @@ use Rattle.table_readers.proofs.lists.list_type.Statement.{statement}
 use Rattle.table_readers.proofs.lists.list_type.Tie as tie
 use Rattle.table_readers.proofs.lists.list_type.Reads as reads
 use Rattle.table_readers.proofs.lists.list_type.Lts as lts
-use Rattle.header.proofs.section_of.Reads as section-of-reads
+use Rattle.header.proofs.up_to_end.Reads as up-to-end-reads
 use Rattle.type_list.proofs.type_at.Reads as type-at-reads
 
-section-of-requires : tie.Need-section-of-requires
-section-of-requires c κs = search laws
+up-to-end-requires : tie.Need-up-to-end-requires
+up-to-end-requires c κs = search laws
 
 type-at-requires : tie.Need-type-at-requires
 type-at-requires c κs = search laws
@@ -22,4 +22,4 @@ unfolding listType
 returns-2 c = search laws
 
 pub list-type-spec : {M : Type 1} → statement M
-list-type-spec = tie.close (tie.spec section-of-requires type-at-requires returns returns-2)
+list-type-spec = tie.close (tie.spec up-to-end-requires type-at-requires returns returns-2)

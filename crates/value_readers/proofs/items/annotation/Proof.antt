@@ -5,7 +5,7 @@ use Rattle.value_readers.proofs.items.annotation.Tie as tie
 use Rattle.value_readers.proofs.items.annotation.Reads as reads
 use Rattle.value_readers.proofs.items.annotation.Lts as lts
 use Rattle.value_readers.proofs.opening.open_within.Reads as open-within-reads
-use Rattle.header.proofs.section_of.Reads as section-of-reads
+use Rattle.header.proofs.up_to_end.Reads as up-to-end-reads
 use Rattle.header.proofs.frame_of.Reads as frame-of-reads
 use Rattle.annotation_items.proofs.annotation.Reads as annotation-reads
 
@@ -18,8 +18,8 @@ enum-known-r c = search laws
 enum-known-o : tie.Need-enum-known-o
 enum-known-o c = search laws
 
-section-of-requires : tie.Need-section-of-requires
-section-of-requires c κs = search laws
+up-to-end-requires : tie.Need-up-to-end-requires
+up-to-end-requires c κs = search laws
 
 frame-of-requires : tie.Need-frame-of-requires
 frame-of-requires c κs = search laws
@@ -36,4 +36,4 @@ unfolding annotationOf
 returns-2 c = search laws
 
 pub annotation-spec : {M : Type 1} → statement M
-annotation-spec = tie.close (tie.spec open-within-requires enum-known-r enum-known-o section-of-requires frame-of-requires annotation-requires returns returns-2)
+annotation-spec = tie.close (tie.spec open-within-requires enum-known-r enum-known-o up-to-end-requires frame-of-requires annotation-requires returns returns-2)

@@ -1,8 +1,8 @@
 use Rattle.header.proofs.Laws.{section-laws as laws}
-use Rattle.header.proofs.section_of.Statement.{statement}
-use Rattle.header.proofs.section_of.Tie as tie
-use Rattle.header.proofs.section_of.Reads as reads
-use Rattle.header.proofs.section_of.Lts as lts
+use Rattle.header.proofs.up_to_end.Statement.{statement}
+use Rattle.header.proofs.up_to_end.Tie as tie
+use Rattle.header.proofs.up_to_end.Reads as reads
+use Rattle.header.proofs.up_to_end.Lts as lts
 
 returns : tie.Need-returns
 returns c = search laws
@@ -19,6 +19,6 @@ part-result-end c = search laws
 returns-2 : tie.Need-returns-2
 returns-2 c = search laws
 
-pub section-of-spec : {M : Type 1} → statement M
-section-of-spec =
+pub up-to-end-spec : {M : Type 1} → statement M
+up-to-end-spec =
     tie.close (tie.spec returns sub-result part-result-start part-result-end returns-2)
