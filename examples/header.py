@@ -148,8 +148,8 @@ def words():
 def kinds():
     """Numbers of kinds: answer_rows writes them, but for an index, whose kind is its code; value_heads says which table a code is of, and an enum is a field."""
     arms = re.findall(r'^        Value::(\w+).*? => four\(\s*(\w+)', text('crates/answer_rows/src/words.rt'), re.M)
-    code = {name.upper(): int(number) for name, number in arms if number.isdigit()}
-    if [name for name, number in arms if not number.isdigit()] != ['Index']:
+    code = {name.upper(): int(number, 0) for name, number in arms if number[0].isdigit()}
+    if [name for name, number in arms if not number[0].isdigit()] != ['Index']:
         return ['the rows of values are not understood']
     heads = text('crates/value_heads/src/lib.rt')
     first, past = one(r'fn is_index_code.*?if (\w+) <= code \{\s*return code < (\w+);', heads)
@@ -172,7 +172,7 @@ def refusals():
 def constants():
     code = {
         'DRALOVIKA_WORDS': one(r'^row ws = padded (\d+) ws$', text('crates/answer_rows/specs/Words.antt')),
-        'DRALOVIKA_FLAGS_ROOM': one(r'^flags class value = bits (\d+) class 0 value$', text('crates/access_flags/specs/Flags.antt')),
+        'DRALOVIKA_FLAGS_ROOM': one(r'^flag-bits = (\d+)$', text('crates/access_flags/specs/Flags.antt')),
         'DRALOVIKA_LONGEST': one(r'if (\d+) < f\.len\(\)', text('crates/header/src/lib.rt')),
         'DRALOVIKA_NOTHING': {str(2**64 - 1): 'UINT64_MAX'}.get(one(r'^no-number = (\d+)$', text('crates/answer_rows/specs/Words.antt'))),
         'DRALOVIKA_VERSION': '"' + '.'.join(macros['DRALOVIKA_VERSION_' + part] for part in ('MAJOR', 'MINOR', 'PATCH')) + '"',
