@@ -1,7 +1,7 @@
 // Annotations.
 ghost use mathlib.Core.Path.{_≡_};
 ghost use Rattle.directory_readers.specs.Directories.{directory, entryNumber};
-ghost use Rattle.value_readers.specs.Items.{annotationOf, elementOf};
+ghost use Rattle.value_readers.specs.Items.{annotationOf, annotationElementOf};
 ghost use Rattle.set_readers.specs.Sets.{classSet, entrySet, parameterSet, parameterSetCount, annotationCount, annotationPlace};
 ghost use Rattle.answer_rows.specs.Words.{told, told-if, number-words, directory-words, place-words, annotation-words, element-words};
 
@@ -134,7 +134,7 @@ pub extern "C" fn dralovika_annotation(f: &[u8], place: usize, out: &mut [u64; 2
 
 #[no_mangle]
 pub extern "C" fn dralovika_annotation_element(f: &[u8], place: usize, k: u32, out: &mut [u64; 20])
-    ensures { λ _. ⌜ now (out .exit) ≡ told element-words (elementOf (now (f .entry)) place k) ⌝ }
+    ensures { λ _. ⌜ now (out .exit) ≡ told element-words (annotationElementOf (now (f .entry)) place k) ⌝ }
 {
     *out = answer_rows::element_row(dex::annotation_element(f, place, k));
 }

@@ -1,7 +1,7 @@
 // Values by place and by class.
 
 ghost use mathlib.Core.Path.{_≡_};
-ghost use Rattle.value_readers.specs.Bodies.{arrayOf, arrayValueOf, bodyOf, elementOf};
+ghost use Rattle.value_readers.specs.Bodies.{arrayOf, arrayValueOf, bodyOf, bodyElementOf};
 ghost use Rattle.value_readers.specs.Statics.{staticCount, staticValue};
 ghost use Rattle.answer_rows.specs.Words.{told, number-words, array-words, body-words, value-words, element-words};
 
@@ -35,7 +35,7 @@ pub extern "C" fn dralovika_annotation_body_element(
     k: u32,
     out: &mut [u64; 20],
 )
-    ensures { λ _. ⌜ now (out .exit) ≡ told element-words (elementOf (now (f .entry)) place k) ⌝ }
+    ensures { λ _. ⌜ now (out .exit) ≡ told element-words (bodyElementOf (now (f .entry)) place k) ⌝ }
 {
     *out = answer_rows::element_row(dex::annotation_body_element(f, place, k));
 }

@@ -259,8 +259,8 @@ module _ (f : List ℕ) {r : File} (reads : Reads f r) where
     unfolding I.annotationOf itemSummary
     summary-read = bind-answer _ (opened-within (item-in i .allows)) ∙ bind-answer _ item-read
 
-    element-read : (k : ℕ) → I.elementOf f (a .place) k ≡ (pick k (a .annotation .elements) >>= λ (n : Named). answer (element-shown n))
-    unfolding I.elementOf itemElement
+    element-read : (k : ℕ) → I.annotationElementOf f (a .place) k ≡ (pick k (a .annotation .elements) >>= λ (n : Named). answer (element-shown n))
+    unfolding I.annotationElementOf itemElement
     element-read k = bind-answer _ (opened-within (item-in i .allows)) ∙ bind-answer _ item-read
 
 pub annotations-agree : (f : List ℕ) {r : File} → Reads f r → AnnotationReaders f r

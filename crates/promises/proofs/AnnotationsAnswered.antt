@@ -17,7 +17,7 @@ use Rattle.annotation_items.specs.Items.{AnnotationItem}
 use Rattle.annotation_walk.specs.Below.{Under, Annotated}
 use Rattle.annotation_walk.specs.Rules.{SetBelow, ReferencesBelow, DirectoryBelow}
 use Rattle.set_readers.specs.Sets.{classSet, entrySet, parameterSet, annotationCount, annotationPlace}
-use Rattle.value_readers.specs.Items.{elementOf}
+use Rattle.value_readers.specs.Items.{annotationElementOf}
 use Rattle.class_walk.specs.Classes.{ClassBelow}
 use Rattle.whole_check.specs.File.{File}
 use Rattle.promises.specs.Reads.{Reads}
@@ -47,7 +47,7 @@ module _ (f : List ℕ) {r : File} (reads : Reads f r) where
       record {
         annotation = notes .annotation i;
         kind = type-answered f reads _ (low .item-type i);
-        annotation-element = elements-answered f reads (elementOf f (a .place)) (a .annotation .elements) (λ k. notes .element i k) (λ k e m. low .item-name i m);
+        annotation-element = elements-answered f reads (annotationElementOf f (a .place)) (a .annotation .elements) (λ k. notes .element i k) (λ k e m. low .item-name i m);
       }
 
   set-answered : (count : Outcome ℕ) (place : ℕ → Outcome ℕ) (l : List AnnotationItem) → count ≡ answer (length l) → ((k : ℕ) → place k ≡ (pick k l >>= λ (a : AnnotationItem). answer (a .place)))

@@ -207,8 +207,8 @@ module _ (f : List ℕ) {r : File} (reads : Reads f r) where
     unfolding B.bodyOf B.notedBody annotationNoted
     body-sized = bind-answer _ (opened-within f reads body-allowed) ∙ bind-answer _ (bind-answer _ body-read) ∙ bind-answer _ (bind-answer _ body-read)
 
-    body-valued : (k : ℕ) → B.elementOf f p k ≡ (pick k (a .elements) >>= λ (e : Named). answer (element-shown e))
-    unfolding B.elementOf annotationElement
+    body-valued : (k : ℕ) → B.bodyElementOf f p k ≡ (pick k (a .elements) >>= λ (e : Named). answer (element-shown e))
+    unfolding B.bodyElementOf annotationElement
     body-valued k = bind-answer _ (opened-within f reads body-allowed) ∙ bind-answer _ body-read
 
   -- ---- static values by number

@@ -11,7 +11,7 @@ use Rattle.refusal.proofs.Laws.{bind-answer}
 use Rattle.encoded_value.specs.Tree.{Named, Tree, index, array, annotation, trees, elements-of}
 use Rattle.value_bodies.specs.Bodies.{ShownElement, pick}
 use Rattle.value_bodies.proofs.Picks.{pick-there}
-use Rattle.value_readers.specs.Bodies.{elementOf}
+use Rattle.value_readers.specs.Bodies.{bodyElementOf}
 use Rattle.whole_check.specs.File.{File}
 use Rattle.promises.specs.Reads.{Reads}
 use Rattle.promises.specs.Annotations.{element-shown}
@@ -61,5 +61,5 @@ module _ (f : List ℕ) {r : File} (reads : Reads f r) where
       record {
         annotation-body = values .body-size es i;
         kind = type-answered f reads _ (low .body-type es i);
-        annotation-body-element = elements-answered (elementOf f p) es (λ k. values .body-element es i k) (λ k e m. low .body-name es i m);
+        annotation-body-element = elements-answered (bodyElementOf f p) es (λ k. values .body-element es i k) (λ k e m. low .body-name es i m);
       }

@@ -15,7 +15,7 @@ use Rattle.annotation_items.specs.Items.{AnnotationItem, Summary}
 use Rattle.annotation_walk.specs.Below.{Under, Annotated}
 use Rattle.directory_readers.specs.Directories.{directory, entryNumber}
 use Rattle.set_readers.specs.Sets.{classSet, entrySet, parameterSet, parameterSetCount, annotationCount, annotationPlace}
-use Rattle.value_readers.specs.Items.{annotationOf, elementOf}
+use Rattle.value_readers.specs.Items.{annotationOf, annotationElementOf}
 use Rattle.class_walk.specs.Classes.{ClassBelow}
 use Rattle.whole_check.specs.File.{File}
 use Rattle.promises.specs.Tables.{listed, part-of}
@@ -79,4 +79,4 @@ pub record AnnotationReaders (f : List ℕ) (r : File) : Type 0 where
       → annotationPlace f (parameterSet f c e p) k ≡ part-of c (r .classes) (λ b. part-of e (under (λ d. d .parameters) (b .annotations)) (λ u. part-of p (u .below) (λ l. part-of k (listed l) (λ a. answer (a .place)))))
   -- ---- annotations by place: the places are those that the readers above answer
   pub annotation : {a : AnnotationItem} → ItemIn r a → annotationOf f (a .place) ≡ answer (summary-of a)
-  pub element : {a : AnnotationItem} → ItemIn r a → (k : ℕ) → elementOf f (a .place) k ≡ part-of k (a .annotation .elements) (λ n. answer (element-shown n))
+  pub element : {a : AnnotationItem} → ItemIn r a → (k : ℕ) → annotationElementOf f (a .place) k ≡ part-of k (a .annotation .elements) (λ n. answer (element-shown n))

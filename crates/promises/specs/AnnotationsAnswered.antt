@@ -11,7 +11,7 @@ use Rattle.annotation_items.specs.Items.{AnnotationItem}
 use Rattle.annotation_walk.specs.Below.{Under, Annotated}
 use Rattle.directory_readers.specs.Directories.{entryNumber}
 use Rattle.set_readers.specs.Sets.{entrySet, parameterSet, parameterSetCount, annotationCount, annotationPlace}
-use Rattle.value_readers.specs.Items.{annotationOf, elementOf}
+use Rattle.value_readers.specs.Items.{annotationOf, annotationElementOf}
 use Rattle.whole_check.specs.File.{File}
 use Rattle.promises.specs.Tables.{listed}
 use Rattle.promises.specs.Annotations.{entry-of, summary-of}
@@ -24,7 +24,7 @@ module _ (f : List ℕ) (r : File) where
   pub record AnnotationAnswered (a : AnnotationItem) : Type 0 where
     pub annotation : annotationOf f (a .place) ≡ answer (summary-of a)
     pub kind : TypeAnswered f r (a .annotation .type-index)
-    pub annotation-element : ElementsAnswered f r (elementOf f (a .place)) (a .annotation .elements)
+    pub annotation-element : ElementsAnswered f r (annotationElementOf f (a .place)) (a .annotation .elements)
 
   -- a set: one reader answers how many annotations it has, another where each is, and at that place the annotation is answered
   pub record SetAnswered (count : Outcome ℕ) (place : ℕ → Outcome ℕ) (l : List AnnotationItem) : Type 0 where

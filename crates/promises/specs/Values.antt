@@ -12,7 +12,7 @@ use Rattle.encoded_value.specs.Tree.{Named, Tree, array, annotation, trees, ele
 use Rattle.encoded_value.specs.Rules.{ArrayRule}
 use Rattle.decoded_value.specs.Shown.{shown}
 use Rattle.annotation_items.specs.Items.{AnnotationItem}
-use Rattle.value_readers.specs.Bodies.{arrayOf, arrayValueOf, bodyOf, elementOf}
+use Rattle.value_readers.specs.Bodies.{arrayOf, arrayValueOf, bodyOf, bodyElementOf}
 use Rattle.value_readers.specs.Statics.{staticCount, staticValue}
 use Rattle.class_walk.specs.Classes.{ClassBelow}
 use Rattle.whole_check.specs.File.{File}
@@ -41,4 +41,4 @@ pub record ValueReaders (f : List ℕ) (r : File) : Type 0 where
   pub array-size : {p q : ℕ} (vs : List Tree) → ValueIn r (array p q (trees vs)) → arrayOf f p ≡ answer (record { count = length vs; length = q - p })
   pub array-value : {p q : ℕ} (vs : List Tree) → ValueIn r (array p q (trees vs)) → (k : ℕ) → arrayValueOf f p k ≡ part-of k vs (λ v. answer (shown v))
   pub body-size : {p q t : ℕ} (es : List Named) → ValueIn r (annotation p q t (elements-of es)) → bodyOf f p ≡ answer (record { type-index = t; count = length es; length = q - p })
-  pub body-element : {p q t : ℕ} (es : List Named) → ValueIn r (annotation p q t (elements-of es)) → (k : ℕ) → elementOf f p k ≡ part-of k es (λ e. answer (element-shown e))
+  pub body-element : {p q t : ℕ} (es : List Named) → ValueIn r (annotation p q t (elements-of es)) → (k : ℕ) → bodyElementOf f p k ≡ part-of k es (λ e. answer (element-shown e))

@@ -7,7 +7,7 @@ use Rattle.refusal.specs.Outcome.{Outcome, answer}
 use Rattle.encoded_value.specs.Tree.{Named, Tree}
 use Rattle.decoded_value.specs.Shown.{shown}
 use Rattle.value_bodies.specs.Bodies.{ShownElement}
-use Rattle.value_readers.specs.Bodies.{arrayOf, arrayValueOf, bodyOf, elementOf}
+use Rattle.value_readers.specs.Bodies.{arrayOf, arrayValueOf, bodyOf, bodyElementOf}
 use Rattle.whole_check.specs.File.{File}
 use Rattle.promises.specs.Annotations.{element-shown}
 use Rattle.promises.specs.Numbers.{EachIn}
@@ -37,4 +37,4 @@ module _ (f : List ℕ) (r : File) where
   pub record AnnotationBodyAnswered (place bytes type-index : ℕ) (l : List Named) : Type 0 where
     pub annotation-body : bodyOf f place ≡ answer (record { type-index = type-index; count = length l; length = bytes })
     pub kind : TypeAnswered f r type-index
-    pub annotation-body-element : ElementsAnswered (elementOf f place) l
+    pub annotation-body-element : ElementsAnswered (bodyElementOf f place) l

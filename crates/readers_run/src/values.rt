@@ -20,7 +20,7 @@ pub(crate) fn row(f: &[u8], reader: u8, place: usize, k: u32) -> [u64; 20] {
 
 // The reader for a step into a nested value: 255 asks for the body's size, any other number for that value or element.
 fn reader_of(kind: u64, k: u8) -> u8 {
-    if kind == 28 {
+    if kind == 0x1c {
         if k == 255 {
             return 48;
         }

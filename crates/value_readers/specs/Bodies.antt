@@ -42,5 +42,5 @@ notedBody s w p = do
 unfoldable pub bodyOf : List ℕ → ℕ → Outcome NotedSize
 bodyOf f place = openedWithin f place >>= λ o. notedBody (up-to-end f (o .header)) (walk-in (o .header) (o .handles) place) place
 
-unfoldable pub elementOf : List ℕ → ℕ → ℕ → Outcome ShownElement
-elementOf f place k = openedWithin f place >>= λ o. annotationElement (up-to-end f (o .header)) (walk-in (o .header) (o .handles) place) place k
+unfoldable pub bodyElementOf : List ℕ → ℕ → ℕ → Outcome ShownElement
+bodyElementOf f place k = openedWithin f place >>= λ o. annotationElement (up-to-end f (o .header)) (walk-in (o .header) (o .handles) place) place k

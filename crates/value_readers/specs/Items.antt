@@ -10,5 +10,5 @@ use Rattle.value_readers.specs.Opening.{openedWithin}
 unfoldable pub annotationOf : List ℕ → ℕ → Outcome Summary
 annotationOf f place = openedWithin f place >>= λ o. itemSummary (up-to-end f (o .header)) (frame-of (o .header) (o .handles)) place
 
-unfoldable pub elementOf : List ℕ → ℕ → ℕ → Outcome ShownElement
-elementOf f place k = openedWithin f place >>= λ o. itemElement (up-to-end f (o .header)) (frame-of (o .header) (o .handles)) place k
+unfoldable pub annotationElementOf : List ℕ → ℕ → ℕ → Outcome ShownElement
+annotationElementOf f place k = openedWithin f place >>= λ o. itemElement (up-to-end f (o .header)) (frame-of (o .header) (o .handles)) place k

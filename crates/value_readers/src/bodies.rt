@@ -10,7 +10,7 @@ use value_bodies::PickedAnswer;
 use value_heads::Walk;
 ghost use mathlib.Core.Path.{_≡_};
 ghost use Rattle.value_bodies.specs.Answers.{picked-outcome, element-outcome};
-ghost use Rattle.value_readers.specs.Bodies.{arrayBody, notedBody, arrayOf, arrayValueOf, bodyOf, elementOf};
+ghost use Rattle.value_readers.specs.Bodies.{arrayBody, notedBody, arrayOf, arrayValueOf, bodyOf, bodyElementOf};
 ghost use Rattle.value_readers.specs.Answers.{array-outcome, body-outcome};
 
 // An array's size, and its length in bytes.
@@ -104,7 +104,7 @@ pub fn annotation_body(f: &[u8], place: usize) -> BodyAnswer
 
 // Element k of the annotation body at a place.
 pub fn annotation_body_element(f: &[u8], place: usize, k: u32) -> ElementAnswer
-    ensures { λ r. ⌜ element-outcome r ≡ elementOf (now (f .entry)) place k ⌝ }
+    ensures { λ r. ⌜ element-outcome r ≡ bodyElementOf (now (f .entry)) place k ⌝ }
 {
     match super::opening::open_within(f, place) {
         OpenedAnswer::Refused(r) => ElementAnswer::Refused(r),

@@ -5,7 +5,7 @@ use value_bodies::ElementAnswer;
 ghost use mathlib.Core.Path.{_≡_};
 ghost use Rattle.value_bodies.specs.Answers.{element-outcome};
 ghost use Rattle.annotation_items.specs.Answers.{summary-outcome};
-ghost use Rattle.value_readers.specs.Items.{annotationOf, elementOf};
+ghost use Rattle.value_readers.specs.Items.{annotationOf, annotationElementOf};
 
 // The annotation item at a place: its visibility, its type, and how many elements it has.
 pub fn annotation(f: &[u8], place: usize) -> SummaryAnswer
@@ -26,7 +26,7 @@ pub fn annotation(f: &[u8], place: usize) -> SummaryAnswer
 
 // Element k of the annotation item at a place: its name and its value.
 pub fn annotation_element(f: &[u8], place: usize, k: u32) -> ElementAnswer
-    ensures { λ r. ⌜ element-outcome r ≡ elementOf (now (f .entry)) place k ⌝ }
+    ensures { λ r. ⌜ element-outcome r ≡ annotationElementOf (now (f .entry)) place k ⌝ }
 {
     match super::opening::open_within(f, place) {
         OpenedAnswer::Refused(r) => ElementAnswer::Refused(r),

@@ -1,5 +1,5 @@
 use Rattle.value_readers.proofs.Laws.{placed as laws}
-use Rattle.value_readers.specs.Items.{elementOf}
+use Rattle.value_readers.specs.Items.{annotationElementOf}
 use Rattle.value_readers.proofs.items.annotation_element.Statement.{statement}
 use Rattle.value_readers.proofs.items.annotation_element.Tie as tie
 use Rattle.value_readers.proofs.items.annotation_element.Reads as reads
@@ -28,11 +28,11 @@ annotation-element-requires : tie.Need-annotation-element-requires
 annotation-element-requires c κs = search laws
 
 returns : tie.Need-returns
-unfolding elementOf
+unfolding annotationElementOf
 returns c = search laws
 
 returns-2 : tie.Need-returns-2
-unfolding elementOf
+unfolding annotationElementOf
 returns-2 c = search laws
 
 pub annotation-element-spec : {M : Type 1} → statement M
