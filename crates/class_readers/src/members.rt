@@ -18,7 +18,7 @@ fn counts_under(f: &[u8], s: Spot) -> MaybeDataAnswer
     let h = s.header;
     match class_data::class_data_at(
         header::up_to_end(f, h),
-        header::frame_of(h, 0),
+        header::plain_frame(h),
         s.place as usize,
     ) {
         DataAnswer::Refused(r) => MaybeDataAnswer::Refused(r),
@@ -43,7 +43,7 @@ fn member_under(f: &[u8], s: Spot, list: u32, k: u32) -> MaybeMemberAnswer
     let h = s.header;
     match class_data::member_at(
         header::up_to_end(f, h),
-        header::frame_of(h, 0),
+        header::plain_frame(h),
         s.place as usize,
         list,
         k,

@@ -50,7 +50,7 @@ fn method_under(f: &[u8], s: Spot, list: u32, k: u32) -> SpotAnswer
     let h = s.header;
     match class_data::member_at(
         header::up_to_end(f, h),
-        header::frame_of(h, 0),
+        header::plain_frame(h),
         s.place as usize,
         list,
         k,
@@ -86,7 +86,7 @@ fn debug_under(f: &[u8], s: Spot) -> SpotAnswer
     let h = s.header;
     match code_item::code_at(
         header::up_to_end(f, h),
-        header::frame_of(h, 0),
+        header::plain_frame(h),
         s.place as usize,
     ) {
         CodeAnswer::Refused(r) => SpotAnswer::Refused(r),

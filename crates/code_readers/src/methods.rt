@@ -27,7 +27,7 @@ fn outline_under(f: &[u8], s: Spot) -> MaybeCodeAnswer
     let h = s.header;
     match code_item::code_at(
         header::up_to_end(f, h),
-        header::frame_of(h, 0),
+        header::plain_frame(h),
         s.place as usize,
     ) {
         CodeAnswer::Refused(r) => MaybeCodeAnswer::Refused(r),
@@ -63,7 +63,7 @@ fn try_under(f: &[u8], s: Spot, t: u32) -> MaybeTryAnswer
     let h = s.header;
     match code_item::try_at(
         header::up_to_end(f, h),
-        header::frame_of(h, 0),
+        header::plain_frame(h),
         s.place as usize,
         t,
     ) {
@@ -89,7 +89,7 @@ fn cover_under(f: &[u8], s: Spot, address: u32) -> CoveringTryAnswer
     let h = s.header;
     code_item::covering_try(
         header::up_to_end(f, h),
-        header::frame_of(h, 0),
+        header::plain_frame(h),
         s.place as usize,
         address,
     )
@@ -112,7 +112,7 @@ fn handler_under(f: &[u8], s: Spot, number: u32) -> MaybeHandlerAnswer
     let h = s.header;
     match code_item::handler_at(
         header::up_to_end(f, h),
-        header::frame_of(h, 0),
+        header::plain_frame(h),
         s.place as usize,
         number,
     ) {
@@ -138,7 +138,7 @@ fn pair_under(f: &[u8], s: Spot, number: u32, p: u32) -> MaybePairAnswer
     let h = s.header;
     match code_item::pair_at(
         header::up_to_end(f, h),
-        header::frame_of(h, 0),
+        header::plain_frame(h),
         s.place as usize,
         number,
         p,
@@ -185,7 +185,7 @@ fn units_under(f: &[u8], s: Spot, out: &mut [u16]) -> MaybeCountAnswer
     let h = s.header;
     match code_item::code_at(
         header::up_to_end(f, h),
-        header::frame_of(h, 0),
+        header::plain_frame(h),
         s.place as usize,
     ) {
         CodeAnswer::Refused(r) => MaybeCountAnswer::Refused(r),

@@ -59,7 +59,7 @@ pub fn head_in(f: &[u8], header: Header, at: u32) -> DirectoryAnswer
     if 0 < at {
         return match annotation_directories::directory(
             header::up_to_end(f, header),
-            header::frame_of(header, 0),
+            header::plain_frame(header),
             at as usize,
         ) {
             DirectoryHeadAnswer::Refused(r) => DirectoryAnswer::Refused(r),
@@ -89,7 +89,7 @@ pub fn entry_in(f: &[u8], header: Header, at: u32, list: u32, k: u32) -> Directo
     if 0 < at {
         return annotation_directories::directory_entry(
             header::up_to_end(f, header),
-            header::frame_of(header, 0),
+            header::plain_frame(header),
             at as usize,
             list,
             k,

@@ -73,7 +73,7 @@ fn parameter_set_in(f: &[u8], header: Header, at: u32, p: u32) -> ReachedAnswer
 {
     match annotation_lists::reference_offset(
         header::up_to_end(f, header),
-        header::frame_of(header, 0),
+        header::plain_frame(header),
         at as usize,
         p,
     ) {
@@ -102,7 +102,7 @@ fn references_in(f: &[u8], header: Header, at: u32) -> WordAnswer
 {
     annotation_lists::reference_count(
         header::up_to_end(f, header),
-        header::frame_of(header, 0),
+        header::plain_frame(header),
         at as usize,
     )
 }
@@ -127,7 +127,7 @@ fn set_count(f: &[u8], header: Header, at: u32) -> WordAnswer
     if 0 < at {
         return annotation_lists::set_count(
             header::up_to_end(f, header),
-            header::frame_of(header, 0),
+            header::plain_frame(header),
             at as usize,
         );
     }
@@ -140,7 +140,7 @@ fn set_number(f: &[u8], header: Header, at: u32, k: u32) -> WordAnswer
     if 0 < at {
         return annotation_lists::set_offset(
             header::up_to_end(f, header),
-            header::frame_of(header, 0),
+            header::plain_frame(header),
             at as usize,
             k,
         );

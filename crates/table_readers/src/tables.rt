@@ -29,7 +29,7 @@ fn type_in(f: &[u8], header: Header, n: u32) -> IndexAnswer
 {
     let t = header.types;
     if n < t.count {
-        return ids::type_at(f, header::frame_of(header, 0), t.offset, n);
+        return ids::type_at(f, header::plain_frame(header), t.offset, n);
     }
     IndexAnswer::Refused(Refusal {
         number: 7,
@@ -52,7 +52,7 @@ pub fn proto_in(f: &[u8], header: Header, n: u32) -> ProtoAnswer
 {
     let t = header.protos;
     if n < t.count {
-        return ids::proto_at(f, header::frame_of(header, 0), header.end, t.offset, n);
+        return ids::proto_at(f, header::plain_frame(header), header.end, t.offset, n);
     }
     ProtoAnswer::Refused(Refusal {
         number: 7,
@@ -76,7 +76,7 @@ fn field_in(f: &[u8], header: Header, n: u32) -> MemberIdAnswer
     let t = header.fields;
     let types = header.types;
     if n < t.count {
-        return ids::member_at(f, header::frame_of(header, 0), types.count, t.offset, n);
+        return ids::member_at(f, header::plain_frame(header), types.count, t.offset, n);
     }
     MemberIdAnswer::Refused(Refusal {
         number: 7,
@@ -100,7 +100,7 @@ fn method_in(f: &[u8], header: Header, n: u32) -> MemberIdAnswer
     let t = header.methods;
     let protos = header.protos;
     if n < t.count {
-        return ids::member_at(f, header::frame_of(header, 0), protos.count, t.offset, n);
+        return ids::member_at(f, header::plain_frame(header), protos.count, t.offset, n);
     }
     MemberIdAnswer::Refused(Refusal {
         number: 7,
@@ -123,7 +123,7 @@ pub fn class_in(f: &[u8], header: Header, n: u32) -> ClassAnswer
 {
     let t = header.classes;
     if n < t.count {
-        return class_ids::class_at(f, header::frame_of(header, 0), header.end, t.offset, n);
+        return class_ids::class_at(f, header::plain_frame(header), header.end, t.offset, n);
     }
     ClassAnswer::Refused(Refusal {
         number: 7,
