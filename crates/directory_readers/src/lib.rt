@@ -48,7 +48,7 @@ pub fn directory_of(f: &[u8], c: u32) -> ReachedAnswer
 {
     match header::header_of(f) {
         HeaderAnswer::Refused(r) => ReachedAnswer::Refused(r),
-        HeaderAnswer::Got(h) => directory_in(f, h, c),
+        HeaderAnswer::Got(header) => directory_in(f, header, c),
     }
 }
 
@@ -76,8 +76,8 @@ pub fn directory(f: &[u8], c: u32) -> DirectoryAnswer
     match directory_of(f, c) {
         ReachedAnswer::Refused(r) => DirectoryAnswer::Refused(r),
         ReachedAnswer::Got(d) => {
-            let h = d.header;
-            head_in(f, h, d.place)
+            let header = d.header;
+            head_in(f, header, d.place)
         }
     }
 }
@@ -107,8 +107,8 @@ fn entry_of(f: &[u8], c: u32, list: u32, k: u32) -> DirectoryEntryAnswer
     match directory_of(f, c) {
         ReachedAnswer::Refused(r) => DirectoryEntryAnswer::Refused(r),
         ReachedAnswer::Got(d) => {
-            let h = d.header;
-            entry_in(f, h, d.place, list, k)
+            let header = d.header;
+            entry_in(f, header, d.place, list, k)
         }
     }
 }

@@ -224,8 +224,8 @@ module _ (s : List ℕ) (j : MapJudge) where
 
   row-fits : {n : ℕ} {t u : Scan} {l : List MapEntry} → length (t .seen) ≡ 21 → Rows n t l u → Fit s j t l × (Given l (t .handles) (u .handles) × (length l ≡ n))
   unfolding handlesOf
-  row-fits long (empty {s = t}) = (fit-none t, (kept λ k e m q. none-in m, refl))
-  row-fits long (first {a = e} {l = l} {s = t} {t = v} {u = u} h r) =
+  row-fits long (empty {from = t}) = (fit-none t, (kept λ k e m q. none-in m, refl))
+  row-fits long (first {a = e} {l = l} {from = t} {t = v} {u = u} h r) =
       let step : Judged s j t e (after-entry t e) = record { stands = h .stands; known = h .known; high = h .high; fresh = h .fresh; own = h .own; next = refl } in
       let rest = row-fits (rest-long long h) r in (
         fit-cons long step (subst (λ (x : Scan). Fit s j x l) (sym (h .next)) (rest .0)),

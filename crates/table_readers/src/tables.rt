@@ -20,7 +20,7 @@ pub fn type_name(f: &[u8], n: u32) -> IndexAnswer
 {
     match header::header_of(f) {
         HeaderAnswer::Refused(r) => IndexAnswer::Refused(r),
-        HeaderAnswer::Got(h) => type_in(f, h, n),
+        HeaderAnswer::Got(header) => type_in(f, header, n),
     }
 }
 
@@ -43,7 +43,7 @@ pub fn proto(f: &[u8], n: u32) -> ProtoAnswer
 {
     match header::header_of(f) {
         HeaderAnswer::Refused(r) => ProtoAnswer::Refused(r),
-        HeaderAnswer::Got(h) => proto_in(f, h, n),
+        HeaderAnswer::Got(header) => proto_in(f, header, n),
     }
 }
 
@@ -66,7 +66,7 @@ pub fn field(f: &[u8], n: u32) -> MemberIdAnswer
 {
     match header::header_of(f) {
         HeaderAnswer::Refused(r) => MemberIdAnswer::Refused(r),
-        HeaderAnswer::Got(h) => field_in(f, h, n),
+        HeaderAnswer::Got(header) => field_in(f, header, n),
     }
 }
 
@@ -90,7 +90,7 @@ pub fn method(f: &[u8], n: u32) -> MemberIdAnswer
 {
     match header::header_of(f) {
         HeaderAnswer::Refused(r) => MemberIdAnswer::Refused(r),
-        HeaderAnswer::Got(h) => method_in(f, h, n),
+        HeaderAnswer::Got(header) => method_in(f, header, n),
     }
 }
 
@@ -114,7 +114,7 @@ pub fn class(f: &[u8], n: u32) -> ClassAnswer
 {
     match header::header_of(f) {
         HeaderAnswer::Refused(r) => ClassAnswer::Refused(r),
-        HeaderAnswer::Got(h) => class_in(f, h, n),
+        HeaderAnswer::Got(header) => class_in(f, header, n),
     }
 }
 
@@ -137,7 +137,7 @@ pub fn handle(f: &[u8], n: u32) -> HandleAnswer
 {
     match header::header_of(f) {
         HeaderAnswer::Refused(r) => HandleAnswer::Refused(r),
-        HeaderAnswer::Got(h) => handle_in(f, h, n),
+        HeaderAnswer::Got(header) => handle_in(f, header, n),
     }
 }
 

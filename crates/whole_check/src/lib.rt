@@ -98,7 +98,7 @@ pub fn verdict(f: &[u8]) -> Verdict
 {
     match header::header_of(f) {
         HeaderAnswer::Refused(r) => Verdict::Refused(r),
-        HeaderAnswer::Got(h) => verdict_in(f, h),
+        HeaderAnswer::Got(header) => verdict_in(f, header),
     }
 }
 
