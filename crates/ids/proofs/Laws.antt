@@ -104,6 +104,9 @@ on-handle = said handle-outcome
 
 pub ruleset own-laws = (type-by, proto-by, handle-by, calls, tests, needs)
 
+-- what the returns of `check_member` take: so few that a search that fails says which premise it misses
+pub ruleset check-laws = (member-by, tests)
+
 pub ruleset member-laws = (member-by, member-refused, member-got, calls, tests, needs)
 
 pub ruleset laws = (on-index, on-proto, on-member, on-handle)

@@ -1,4 +1,4 @@
-use Rattle.ids.proofs.Laws.{judged, member-laws as laws}
+use Rattle.ids.proofs.Laws.{judged, check-laws, member-laws as laws}
 use Rattle.ids.proofs.check_member.Statement.{statement}
 use Rattle.ids.proofs.check_member.Tie as tie
 use Rattle.ids.proofs.check_member.Reads as reads
@@ -35,19 +35,19 @@ u32-at-requires c κs = search laws depth 7
 
 returns : tie.Need-returns
 unfolding judged
-returns c = search laws depth 7
+returns c = search check-laws depth 7
 
 returns-2 : tie.Need-returns-2
 unfolding judged
-returns-2 c = search laws depth 7
+returns-2 c = search check-laws depth 7
 
 returns-3 : tie.Need-returns-3
 unfolding judged
-returns-3 c = search laws depth 7
+returns-3 c = search check-laws depth 7
 
 returns-4 : tie.Need-returns-4
 unfolding judged
-returns-4 c = search laws depth 7
+returns-4 c = search check-laws depth 7
 
 pub check-member-spec : {M : Type 1} → statement M
 check-member-spec =
