@@ -176,7 +176,7 @@ module _ (list k : ℕ) (c : Counts) (m : KeptMembers) {n : ℕ} (e : n ≡ coun
   member-there p q = passes not-there (lt-ltb k (countIn list c) (omega arith)) (ap answer q)
 
   pub member-lacks : n ≤ k → refused not-there ≡ given (ltb k (countIn list c)) not-there (answer (memberIn list m))
-  member-lacks p = fails _ (le-ltb k (countIn list c) (omega arith))
+  member-lacks p = fails _ refl (le-ltb k (countIn list c) (omega arith))
 
 -- ---- what this crate's functions are searched with
 pub ruleset part-laws = (on-leb, on-found, on-pair, calls, tests, needs)

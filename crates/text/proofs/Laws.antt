@@ -117,7 +117,7 @@ module _ {s : List ℕ} {item start p count : ℕ} (h : Head s item start p coun
     where
       go : (n : ℕ) → Ending (formAt s item) (runs-past item) (unitsAt s item start) (λ (l : List ℕ). length l ≡ count) n p → refused (runs-past item) ≡ countAt s item start
       go zero e = sym (bind-refused counted (sym (ending-full e (omega arith))))
-      go (suc n) e = sym (bind-refused counted (sym (ending-stop e (omega arith) (fails _ (le-ltb p (length s) i)))))
+      go (suc n) e = sym (bind-refused counted (sym (ending-stop e (omega arith) (fails _ refl (le-ltb p (length s) i)))))
 
 -- ---- forms of one byte, eight at most in one turn
 module _ (s : List ℕ) (p : ℕ) where
