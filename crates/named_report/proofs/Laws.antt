@@ -179,8 +179,8 @@ module _ (name out : List ℕ) (o : Outcome Header) (at : ℕ) (long : at ≡ le
       short-output-answer =
           sym (ap report-outcome c)
           ∙ e
-          ∙ sym (short-answer (reportOf o) (take (length out - at) (drop at out)) short)
-          ∙ short-answer (outputOf name o) out (let z = output-long in let y = part-long in let w = short in omega arith)
+          ∙ sym (short-answer (reportOf o) (take (length out - at) (drop at out)) short refl)
+          ∙ short-answer (outputOf name o) out (let z = output-long in let y = part-long in let w = short in omega arith) refl
 
       pub short-output-content : (last : List ℕ) → last ≡ content (reportOf o) (take (length out - at) (drop at out)) → take at out ++ (last ++ drop (length out - at) (drop at out)) ≡ content (outputOf name o) out
       short-output-content last w =
