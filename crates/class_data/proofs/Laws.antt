@@ -30,7 +30,7 @@ use Rattle.class_data.specs.declared.Methods.{Methods}
 use Rattle.class_data.specs.declared.MethodsAnswer.{MethodsAnswer}
 use Rattle.class_data.specs.declared.DataAnswer.{DataAnswer}
 use Rattle.class_data.specs.declared.MemberAnswer.{MemberAnswer}
-use Rattle.class_data.specs.Data.{Both, countsAt, Two, twoAt, fields-judge, methods-judge, ClassData, classDataAt, counts, extentAt, methodsAt, one-of-four, listOf, memberOf, KeptTwo, keptTwo, KeptData, keptDataAt, countIn, memberIn}
+use Rattle.class_data.specs.Data.{Both, countsAt, Two, twoAt, fields-judge, methods-judge, ClassData, classDataAt, counts, extentAt, methodsAt, one-of-four, listOf, memberOf, KeptTwo, keptTwo, KeptData, keptDataAt, methodsFrom, countIn, memberIn}
 use Rattle.class_data.specs.Answers.{two-numbers-outcome, counts-outcome, two-outcome, kept-data-outcome, data-outcome, member-outcome, methods-outcome}
 
 -- ---- calls, by the arm that was taken
@@ -114,40 +114,28 @@ module _ (s : List ℕ) (f : Frame) (item : ℕ) where
   unfolding extentAt _>>=_
   extent-by e = e ∙ ap (λ (o : Outcome KeptData). o >>= λ (h : KeptData). answer (record { item = h .counts; next = h .end })) (sym (kept-whole 0)) ∙ bind-assoc (classDataAt s f item) (holding 0) _
 
-  pub methods-by : {y : Outcome Methods} → y ≡ (keptDataAt s f item 0 >>= λ (h : KeptData). answer (record { directs = h .counts .directs; virtuals = h .counts .virtuals; from = h .methods })) → y ≡ methodsAt s f item
-  unfolding methodsAt _>>=_
-  methods-by e =
-      e ∙ ap (λ (o : Outcome KeptData). o >>= λ (h : KeptData). answer (record { directs = h .counts .directs; virtuals = h .counts .virtuals; from = h .methods })) (sym (kept-whole 0))
-      ∙ bind-assoc (classDataAt s f item) (holding 0) _
+  -- the methods alone: of a list no more is asked for than its length and where it ends
+  abbrev found-methods : ClassData → Outcome Methods
+  found-methods d = answer (record { directs = length (d .directs); virtuals = length (d .virtuals); from = d .methods })
 
-  -- the methods alone: of the lists nothing but where they end is kept
-  unfoldable pub methodsStaged : Outcome Methods
-  methodsStaged = do
-    c ← countsAt s item
-    x ← keptTwo s (fields-judge f) item (c .next) (c .item .statics) (c .item .instances) 0
-    y ← keptTwo s (methods-judge f) item (x .next) (c .item .directs) (c .item .virtuals) 0
-    answer (record { directs = c .item .directs; virtuals = c .item .virtuals; from = x .next })
-
-  abbrev taking : KeptData → Outcome Methods
-  taking h = answer (record { directs = h .counts .directs; virtuals = h .counts .virtuals; from = h .methods })
-
-  staged-is : methodsStaged ≡ (keptDataAt s f item 0 >>= taking)
-  unfolding keptDataAt methodsStaged _>>=_
-  staged-is = sym (bind-assoc (countsAt s item) _ taking ∙ λ i. countsAt s item >>= λ (c : Found Counts ℕ). lists c i)
+  pub methods-by : {y : Outcome Methods}
+      → y ≡ (countsAt s item >>= λ (c : Found Counts ℕ). keptTwo s (fields-judge f) item (c .next) (c .item .statics) (c .item .instances) 0 >>= λ (x : KeptTwo). methodsFrom s f item (c .item) (x .next))
+      → y ≡ methodsAt s f item
+  unfolding methodsAt classDataAt methodsFrom
+  methods-by e = e ∙ sym (bind-assoc (countsAt s item) _ found-methods ∙ λ i. countsAt s item >>= λ (c : Found Counts ℕ). after-counts c i)
     where
-      lists : (c : Found Counts ℕ) → ((keptTwo s (fields-judge f) item (c .next) (c .item .statics) (c .item .instances) 0 >>= λ (x : KeptTwo).
-          keptTwo s (methods-judge f) item (x .next) (c .item .directs) (c .item .virtuals) 0 >>= λ (y : KeptTwo).
-          answer (record { counts = c .item; members = record { statics = x .first; instances = x .second; directs = y .first; virtuals = y .second }; methods = x .next; end = y .next })) >>= taking)
+      after-counts : (c : Found Counts ℕ) → ((twoAt s (fields-judge f) item (c .next) (c .item .statics) (c .item .instances) >>= λ (x : Found Two ℕ).
+          twoAt s (methods-judge f) item (x .next) (c .item .directs) (c .item .virtuals) >>= λ (y : Found Two ℕ).
+          answer (record { statics = x .item .first; instances = x .item .second; directs = y .item .first; virtuals = y .item .second; methods = x .next; end = y .next })) >>= found-methods)
           ≡ (keptTwo s (fields-judge f) item (c .next) (c .item .statics) (c .item .instances) 0 >>= λ (x : KeptTwo).
           keptTwo s (methods-judge f) item (x .next) (c .item .directs) (c .item .virtuals) 0 >>= λ (y : KeptTwo).
           answer (record { directs = c .item .directs; virtuals = c .item .virtuals; from = x .next }))
-      lists c =
-          bind-assoc (keptTwo s (fields-judge f) item (c .next) (c .item .statics) (c .item .instances) 0) _ taking
-          ∙ λ i. keptTwo s (fields-judge f) item (c .next) (c .item .statics) (c .item .instances) 0 >>= λ (x : KeptTwo).
-          bind-assoc (keptTwo s (methods-judge f) item (x .next) (c .item .directs) (c .item .virtuals) 0) (λ (y : KeptTwo). answer (record { counts = c .item; members = record { statics = x .first; instances = x .second; directs = y .first; virtuals = y .second }; methods = x .next; end = y .next })) taking i
-
-  pub methods-staged : {y : Outcome Methods} → y ≡ methodsStaged → y ≡ methodsAt s f item
-  methods-staged e = methods-by (e ∙ staged-is)
+      after-counts c =
+          bind-assoc (twoAt s (fields-judge f) item (c .next) (c .item .statics) (c .item .instances)) _ found-methods
+          ∙ two-by s item 0 (fields-judge f) (c .next) (c .item .statics) (c .item .instances) _ _
+          (λ x a b. bind-assoc (twoAt s (methods-judge f) item (x .next) (c .item .directs) (c .item .virtuals)) _ found-methods
+          ∙ two-by s item 0 (methods-judge f) (x .next) (c .item .directs) (c .item .virtuals) _ _
+          (λ y u v. bind-answer found-methods refl ∙ λ i. answer (record { directs = u i; virtuals = v i; from = x .next })))
 
   -- a list by its number, in the list, its count and its member
   through : {A B : Type 0} (g : A → B) (list : ℕ) (a b c d e : A) → g (one-of-four list a b c d e) ≡ one-of-four list (g a) (g b) (g c) (g d) (g e)
@@ -181,7 +169,7 @@ module _ (list k : ℕ) (c : Counts) (m : KeptMembers) {n : ℕ} (e : n ≡ coun
 -- ---- what this crate's functions are searched with
 pub ruleset part-laws = (on-leb, on-found, on-pair, calls, tests, needs)
 
-pub ruleset stage-laws = (on-counts, on-two, on-kept, extent-by, methods-staged, member-by, member-there, member-lacks, calls, tests, needs)
+pub ruleset stage-laws = (on-counts, on-two, on-kept, extent-by, methods-by, member-by, member-there, member-lacks, calls, tests, needs)
 
 -- what a caller's functions are
 pub ruleset laws = (on-data, on-member, on-found, on-methods)

@@ -119,6 +119,12 @@ keptDataAt s frame item k = do
   y ← keptTwo s (methods-judge frame) item (x .next) (c .item .directs) (c .item .virtuals) k
   answer (record { counts = c .item; members = record { statics = x .first; instances = x .second; directs = y .first; virtuals = y .second }; methods = x .next; end = y .next })
 
+-- the two lists of methods, of which only that they are allowed is kept
+unfoldable pub methodsFrom : List ℕ → Frame → ℕ → Counts → ℕ → Outcome Methods
+methodsFrom s frame item c from = do
+  y ← keptTwo s (methods-judge frame) item from (c .directs) (c .virtuals) 0
+  answer (record { directs = c .directs; virtuals = c .virtuals; from = from })
+
 unfoldable pub countIn : ℕ → Counts → ℕ
 countIn list c = one-of-four list (c .statics) (c .instances) (c .directs) (c .virtuals) 0
 

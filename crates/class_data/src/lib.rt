@@ -7,7 +7,7 @@ use frame::Frame;
 use leb128::LebAnswer;
 use refusal::Refusal;
 ghost use mathlib.Core.Path.{_≡_};
-ghost use Rattle.class_data.specs.Data.{twoNumbersAt, countsAt, keptTwo, keptDataAt, extentAt, methodsAt, memberOf, countIn, memberIn};
+ghost use Rattle.class_data.specs.Data.{twoNumbersAt, countsAt, keptTwo, keptDataAt, methodsFrom, extentAt, methodsAt, memberOf, countIn, memberIn};
 ghost use Rattle.class_data.specs.Answers.{two-numbers-outcome, counts-outcome, two-outcome, kept-data-outcome, data-outcome, member-outcome, methods-outcome};
 
 pub struct Counts {
@@ -228,43 +228,49 @@ pub fn class_data_at(s: &[u8], frame: Frame, item: usize) -> DataAnswer
     }
 }
 
-// How many methods either list has, and where they begin: for going over them once more. Nothing is kept of the members.
+// The two lists of methods, which begin at `from`: only that they obey their rules is kept, and where they are.
+fn methods_from(s: &[u8], frame: Frame, item: usize, counts: Counts, from: usize) -> MethodsAnswer
+    ensures { λ r. ⌜ methods-outcome r ≡ methodsFrom (now (s .entry)) frame item counts from ⌝ }
+{
+    let methods = MemberJudge {
+        limit: frame.methods,
+        code: true,
+        start: frame.start,
+    };
+    match two_at(s, methods, item, from, counts.directs, counts.virtuals, 0) {
+        TwoMembersAnswer::Refused(r) => MethodsAnswer::Refused(r),
+        TwoMembersAnswer::Got {
+            first: _,
+            second: _,
+            next: _,
+        } => MethodsAnswer::Got(Methods {
+            directs: counts.directs,
+            virtuals: counts.virtuals,
+            from,
+        }),
+    }
+}
+
+// How many methods either list has, and where they begin: for going over them once more. The check asks for nothing else, and the answer of `kept_at`, with its
+// four members, would be copied for each class.
 pub fn methods_at(s: &[u8], frame: Frame, item: usize) -> MethodsAnswer
     ensures { λ r. ⌜ methods-outcome r ≡ methodsAt (now (s .entry)) frame item ⌝ }
 {
+    let fields = MemberJudge {
+        limit: frame.fields,
+        code: false,
+        start: frame.start,
+    };
     match counts_at(s, item) {
         CountsAnswer::Refused(r) => MethodsAnswer::Refused(r),
         CountsAnswer::Got { counts, next } => {
-            let fields = MemberJudge {
-                limit: frame.fields,
-                code: false,
-                start: frame.start,
-            };
             match two_at(s, fields, item, next, counts.statics, counts.instances, 0) {
                 TwoMembersAnswer::Refused(r) => MethodsAnswer::Refused(r),
                 TwoMembersAnswer::Got {
                     first: _,
                     second: _,
-                    next: middle,
-                } => {
-                    let methods = MemberJudge {
-                        limit: frame.methods,
-                        code: true,
-                        start: frame.start,
-                    };
-                    match two_at(s, methods, item, middle, counts.directs, counts.virtuals, 0) {
-                        TwoMembersAnswer::Refused(r) => MethodsAnswer::Refused(r),
-                        TwoMembersAnswer::Got {
-                            first: _,
-                            second: _,
-                            next: _,
-                        } => MethodsAnswer::Got(Methods {
-                            directs: counts.directs,
-                            virtuals: counts.virtuals,
-                            from: middle,
-                        }),
-                    }
-                }
+                    next: from,
+                } => methods_from(s, frame, item, counts, from),
             }
         }
     }

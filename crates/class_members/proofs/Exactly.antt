@@ -2,8 +2,7 @@
 -- Assumes nothing.
 use Prim.Native.Nat.{ℕ, suc, _+_, _<_, _≤_}
 use mathlib.Core.Path.{_≡_, refl, ap, sym, subst, _∙_}
-use mathlib.Core.Bool.{Bool, true, false, cond, false≢true}
-use mathlib.Core.Option.{Option, none, some}
+use mathlib.Core.Bool.{Bool, true, false, false≢true}
 use mathlib.Core.List.{List, [], _∷_}
 use lib.ListN.{length, take}
 use native.Mathlib.Omega.{arith}
@@ -14,14 +13,14 @@ use Rattle.refusal.specs.Exact.{Exact, Decides, Row, empty, first, At, here, th
 use Rattle.refusal.proofs.Exact.{answer-exact, given-exact, bind-exact, exact-iff, below, decided-yes}
 use Rattle.refusal.proofs.Rows.{collect-exact}
 use Rattle.refusal.proofs.Choose.{row-length}
-use Rattle.refusal.proofs.Each.{at-below, at-some, at-same, rising-tail, Follows, row-rises}
+use Rattle.refusal.proofs.Each.{at-below, at-some, at-same, rising-one, rising-cons, rising-tail}
 use Rattle.leb128.specs.Rules.{Uleb}
 use Rattle.leb128.proofs.Exactly.{uleb-exact}
 use Rattle.leb128.proofs.Laws.{uleb-span}
 use Rattle.frame.proofs.Laws.{or-absent-decides}
 use Rattle.class_members.specs.declared.Member.{Member}
 use Rattle.class_members.specs.declared.MemberJudge.{MemberJudge}
-use Rattle.class_members.specs.Members.{apart, offsetAt, codeAt, restAt, memberAt, Run, stepAt, nobody, begin, membersAt}
+use Rattle.class_members.specs.Members.{apart, offsetAt, codeAt, restAt, memberAt, Run, stepAt, begin, membersAt}
 use Rattle.class_members.specs.Rules.{CodeOffsetRule, StoredMember, StoredMemberRule, added-up, LowerIndex, MembersRule}
 
 -- ---- a member
@@ -43,10 +42,10 @@ code-exact s false start item p =
 
 -- the member that these numbers say, and where the list goes on
 abbrev said-by : Run → Found ℕ ℕ → Found ℕ ℕ → Found ℕ ℕ → Found Member ℕ
-said-by t d f c = record { item = record { index = t .last .index + d .item; flags = f .item; code = c .item }; next = c .next }
+said-by t d f c = record { item = record { index = t .base + d .item; flags = f .item; code = c .item }; next = c .next }
 
 abbrev goes-on : Found Member ℕ → Found Member Run
-goes-on m = record { item = m .item; next = record { place = m .next; last = m .item; later = true } }
+goes-on m = record { item = m .item; next = record { place = m .next; base = m .item .index; later = true } }
 
 -- the numbers of a member, in the order of the reading
 pub record Numbers (s : List ℕ) (j : MemberJudge) (t : Run) (m : Found Member ℕ) : Type 0 where
@@ -55,16 +54,16 @@ pub record Numbers (s : List ℕ) (j : MemberJudge) (t : Run) (m : Found Member 
   c : Found ℕ ℕ
   stored : Uleb s (t .place) d
   apart-is : t .later ≡ true → 0 < d .item
-  below-is : t .last .index + d .item < j .limit
+  below-is : t .base + d .item < j .limit
   flags : Uleb s (d .next) f
   code : CodeOffsetRule s (j .code) (j .start) (f .next) (c .item) (c .next)
   whole : said-by t d f c ≡ m
 
-numbers-exact : (s : List ℕ) (j : MemberJudge) (item : ℕ) (t : Run) → Exact (memberAt s j item (t .last .index) (t .later) (t .place)) (Numbers s j t)
+numbers-exact : (s : List ℕ) (j : MemberJudge) (item : ℕ) (t : Run) → Exact (memberAt s j item (t .base) (t .later) (t .place)) (Numbers s j t)
 unfolding memberAt restAt
 numbers-exact s j item t =
     exact-iff
-    (bind-exact _ _ (uleb-exact s item (t .place)) (λ d. given-exact (out-of-order item) (apart-decides (t .later) (d .item)) (given-exact (wrong-index item) (below (t .last .index + d .item) (j .limit))
+    (bind-exact _ _ (uleb-exact s item (t .place)) (λ d. given-exact (out-of-order item) (apart-decides (t .later) (d .item)) (given-exact (wrong-index item) (below (t .base + d .item) (j .limit))
     (bind-exact _ _ (uleb-exact s item (d .next)) (λ f. bind-exact _ _ (code-exact s (j .code) (j .start) item (f .next)) (λ c. answer-exact (said-by t d f c)))))))
     (λ m h. record { d = h .0; f = h .1 .1 .1 .1 .0; c = h .1 .1 .1 .1 .1 .1 .0; stored = h .1 .0; apart-is = h .1 .1 .0; below-is = h .1 .1 .1 .0; flags = h .1 .1 .1 .1 .1 .0; code = h .1 .1 .1 .1 .1 .1 .1 .0; whole = h .1 .1 .1 .1 .1 .1 .1 .1 })
     (λ m h. (h .d, (h .stored, (h .apart-is, (h .below-is, (h .f, (h .flags, (h .c, (h .code, h .whole)))))))))
@@ -76,11 +75,11 @@ record MemberStep (s : List ℕ) (j : MemberJudge) (t : Run) (m : Member) (u : R
   after-flags : ℕ
   stored : Uleb s (t .place) (record { item = difference; next = after-difference })
   apart : t .later ≡ true → 0 < difference
-  sum : t .last .index + difference ≡ m .index
+  sum : t .base + difference ≡ m .index
   below : m .index < j .limit
   flags : Uleb s after-difference (record { item = m .flags; next = after-flags })
   code : CodeOffsetRule s (j .code) (j .start) after-flags (m .code) (u .place)
-  last : m ≡ u .last
+  base : m .index ≡ u .base
   later : true ≡ u .later
 
 step-exact : (s : List ℕ) (j : MemberJudge) (item : ℕ) (t : Run) → Exact (stepAt s j item t) (λ (r : Found Member Run). MemberStep s j t (r .item) (r .next))
@@ -88,10 +87,10 @@ unfolding stepAt
 step-exact s j item t =
     exact-iff (bind-exact _ _ (numbers-exact s j item t) (λ m. answer-exact (goes-on m)))
     (λ r h. subst (λ (x : Found Member Run). MemberStep s j t (x .item) (x .next)) (ap goes-on (h .1 .0 .whole) ∙ h .1 .1) (found (h .1 .0)))
-    (λ r h. (record { item = r .item; next = r .next .place }, (parted r h, λ i. record { item = r .item; next = record { place = r .next .place; last = h .last i; later = h .later i } })))
+    (λ r h. (record { item = r .item; next = r .next .place }, (parted r h, λ i. record { item = r .item; next = record { place = r .next .place; base = h .base i; later = h .later i } })))
   where
     found : {m : Found Member ℕ} (h : Numbers s j t m) → MemberStep s j t (said-by t (h .d) (h .f) (h .c) .item) (goes-on (said-by t (h .d) (h .f) (h .c)) .next)
-    found h = record { difference = h .d .item; after-difference = h .d .next; after-flags = h .f .next; stored = h .stored; apart = h .apart-is; sum = refl; below = h .below-is; flags = h .flags; code = h .code; last = refl; later = refl }
+    found h = record { difference = h .d .item; after-difference = h .d .next; after-flags = h .f .next; stored = h .stored; apart = h .apart-is; sum = refl; below = h .below-is; flags = h .flags; code = h .code; base = refl; later = refl }
 
     parted : (r : Found Member Run) → MemberStep s j t (r .item) (r .next) → Numbers s j t (record { item = r .item; next = r .next .place })
     parted r h =
@@ -130,7 +129,7 @@ module _ (s : List ℕ) (j : MemberJudge) where
     members : Each (StoredAfter b stored) n l
     low : Low j l
 
-  laid-first : {n q : ℕ} {t v : Run} {m : Member} {l : List Member} → MemberStep s j t m v → Laid (v .last .index) n (v .place) l q → Laid (t .last .index) (suc n) (t .place) (m ∷ l) q
+  laid-first : {n q : ℕ} {t v : Run} {m : Member} {l : List Member} → MemberStep s j t m v → Laid (v .base) n (v .place) l q → Laid (t .base) (suc n) (t .place) (m ∷ l) q
   unfolding added-up
   laid-first {n} {q} {t} {v} {m} {l} h rest = record {
     stored = own ∷ rest .stored;
@@ -142,12 +141,12 @@ module _ (s : List ℕ) (j : MemberJudge) where
       own : StoredMember
       own = record { difference = h .difference; flags = m .flags; code = m .code }
 
-      go : {k : ℕ} {x : Member} → At (m ∷ l) k x → StoredAfter (t .last .index) (own ∷ rest .stored) k x
+      go : {k : ℕ} {x : Member} → At (m ∷ l) k x → StoredAfter (t .base) (own ∷ rest .stored) k x
       go here = record { difference = h .difference; stands = here; index = let z = h .sum in omega arith }
       go (there a) =
           let x = rest .members .each a in
           let sum = x .index in
-          let last = ap (λ (y : Member). y .index) (h .last) in
+          let base = h .base in
           let z = h .sum in
           record { difference = x .difference; stands = there (x .stands); index = omega arith }
 
@@ -155,15 +154,15 @@ module _ (s : List ℕ) (j : MemberJudge) where
       low k x here = h .below
       low k x (there a) = rest .low _ x a
 
-  laid : {n : ℕ} {t u : Run} {l : List Member} → Row (MemberStep s j) n t l u → Laid (t .last .index) n (t .place) l (u .place)
+  laid : {n : ℕ} {t u : Run} {l : List Member} → Row (MemberStep s j) n t l u → Laid (t .base) n (t .place) l (u .place)
   laid empty = record { stored = []; row = empty; members = record { count = refl; each = λ m. absurd (let z = at-below m in omega arith) }; low = λ k x m. absurd (let z = at-below m in omega arith) }
   laid (first h r) = laid-first h (laid r)
 
   -- and a row of what is stored is one of steps
-  step-of : {p q : ℕ} {a : StoredMember} {stored : List StoredMember} {last m : Member} {later : Bool} → StoredMemberRule s j p a q → StoredAfter (last .index) (a ∷ stored) 0 m → m .index < j .limit → (later ≡ true → last .index < m .index)
-      → MemberStep s j (record { place = p; last = last; later = later }) m (record { place = q; last = m; later = true })
+  step-of : {p q : ℕ} {a : StoredMember} {stored : List StoredMember} {base : ℕ} {m : Member} {later : Bool} → StoredMemberRule s j p a q → StoredAfter base (a ∷ stored) 0 m → m .index < j .limit → (later ≡ true → base < m .index)
+      → MemberStep s j (record { place = p; base = base; later = later }) m (record { place = q; base = m .index; later = true })
   unfolding added-up
-  step-of {p} {q} {a} {last = last} {m} h x low after =
+  step-of {p} {q} {a} {base = base} {m} h x low after =
       let same : a ≡ record { difference = x .difference; flags = m .flags; code = m .code } = at-same here (x .stands) in
       let sum = x .index in
       record {
@@ -176,7 +175,7 @@ module _ (s : List ℕ) (j : MemberJudge) where
         below = low;
         flags = subst (λ (y : StoredMember). Uleb s (h .after-difference) (record { item = y .flags; next = h .after-flags })) same (h .flags);
         code = subst (λ (y : StoredMember). CodeOffsetRule s (j .code) (j .start) (h .after-flags) (y .code) q) same (h .code);
-        last = refl;
+        base = refl;
         later = refl;
       }
 
@@ -191,28 +190,28 @@ module _ (s : List ℕ) (j : MemberJudge) where
         record { difference = x .difference; stands = at-tail (x .stands); index = omega arith };
   }
 
-  steps-of : {n p q : ℕ} {stored : List StoredMember} (last : Member) (later : Bool) (l : List Member) → Row (StoredMemberRule s j) n p stored q → Each (StoredAfter (last .index) stored) n l → Low j l → Rising LowerIndex l
-      → (later ≡ true → (m : Member) → At l 0 m → last .index < m .index) → (u : Run) × (Row (MemberStep s j) n (record { place = p; last = last; later = later }) l u × (u .place ≡ q))
-  steps-of last later [] empty e low rises after = (_, (empty, refl))
-  steps-of last later (m ∷ l) empty e low rises after = absurd (let z = e .count in omega arith)
-  steps-of last later [] (first h r) e low rises after = absurd (let z = e .count in omega arith)
-  steps-of last later (m ∷ l) (first h r) e low rises after =
-      let rest = steps-of m true l r (after-first e) (λ k x p. low (suc k) x (there p)) (rising-tail rises) (λ t x p. rises .rises here (there p)) in
+  steps-of : {n p q : ℕ} {stored : List StoredMember} (base : ℕ) (later : Bool) (l : List Member) → Row (StoredMemberRule s j) n p stored q → Each (StoredAfter base stored) n l → Low j l → Rising LowerIndex l
+      → (later ≡ true → (m : Member) → At l 0 m → base < m .index) → (u : Run) × (Row (MemberStep s j) n (record { place = p; base = base; later = later }) l u × (u .place ≡ q))
+  steps-of base later [] empty e low rises after = (_, (empty, refl))
+  steps-of base later (m ∷ l) empty e low rises after = absurd (let z = e .count in omega arith)
+  steps-of base later [] (first h r) e low rises after = absurd (let z = e .count in omega arith)
+  steps-of base later (m ∷ l) (first h r) e low rises after =
+      let rest = steps-of (m .index) true l r (after-first e) (λ k x p. low (suc k) x (there p)) (rising-tail rises) (λ t x p. rises .rises here (there p)) in
       (rest .0, (first (step-of h (e .each here) (low 0 m here) (λ t. after t m here)) (rest .1 .0), rest .1 .1))
 
 -- a row of steps rises
-abbrev last-of : Run → Option Member
-last-of t = cond (t .later) (some (t .last)) none
+module _ (s : List ℕ) (j : MemberJudge) where
+  step-before : {n : ℕ} {t v u : Run} {m : Member} {l : List Member} → MemberStep s j t m v → Row (MemberStep s j) n v l u → Rising LowerIndex l → Rising LowerIndex (m ∷ l)
+  step-before h empty rest = rising-one
+  step-before h (first g r) rest =
+      let base = h .base in
+      let more = g .apart (sym (h .later)) in
+      let sum = g .sum in
+      rising-cons (omega arith) rest
 
-steps-rise : (s : List ℕ) (j : MemberJudge) {count p : ℕ} {l : List Member} {u : Run} → Row (MemberStep s j) count (begin p) l u → Rising LowerIndex l
-steps-rise s j r = row-rises LowerIndex last-of (MemberStep s j) after refl r
-  where
-    go : (t : Run) (m : Member) (b : Bool) (d : ℕ) → (b ≡ true → 0 < d) → t .last .index + d ≡ m .index → Follows LowerIndex (cond b (some (t .last)) none) m
-    go t m true d a e = let z = a refl in omega arith
-    go t m false d a e = tt
-
-    after : (t u : Run) (m : Member) → MemberStep s j t m u → Follows LowerIndex (last-of t) m × (some m ≡ last-of u)
-    after t u m h = (go t m (t .later) (h .difference) (h .apart) (h .sum), λ i. cond (h .later i) (some (h .last i)) none)
+  steps-rise : {n : ℕ} {t u : Run} {l : List Member} → Row (MemberStep s j) n t l u → Rising LowerIndex l
+  steps-rise empty = record { rises = λ m n. absurd (let z = at-below n in omega arith) }
+  steps-rise (first h rest) = step-before h rest (steps-rise rest)
 
 -- the list and where it ends
 abbrev pub by-place : Found (List Member) Run → Found (List Member) ℕ
@@ -239,7 +238,7 @@ module _ (s : List ℕ) (j : MemberJudge) (item from count : ℕ) where
   pub members-read : {l : List Member} {q : ℕ} → MembersRule s j from count l q → (u : Run) × ((membersAt s j item from count ≡ answer (record { item = l; next = u })) × (u .place ≡ q))
   members-read {l} {q} h =
       let zero-after : Each (StoredAfter 0 (h .stored)) count l = record { count = h .members .count; each = λ m. let y = h .members .each m in let sum = y .index in record { difference = y .difference; stands = y .stands; index = omega arith } } in
-      let x = steps-of s j nobody false l (h .row) zero-after (λ k m p. h .below p) (h .rises) (λ t m p. absurd (false≢true t)) in
+      let x = steps-of s j 0 false l (h .row) zero-after (λ k m p. h .below p) (h .rises) (λ t m p. absurd (false≢true t)) in
       (x .0, (steps-exact .complete (record { item = l; next = x .0 }) (x .1 .0), x .1 .1))
 
   -- the reading and what follows it, which goes by the list and where it ends

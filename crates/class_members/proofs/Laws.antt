@@ -23,41 +23,39 @@ use Rattle.class_members.specs.declared.MemberFoundAnswer.the-variants a
 use Rattle.class_members.specs.Members.{memberAt, Run, stepAt, nobody, begin, membersAt, placed, keptMembers}
 use Rattle.class_members.specs.Answers.{found-outcome}
 
--- ---- the loop of `members_at` at its head: of the last member its index is held, of the kept one each field
+-- ---- the loop of `members_at` at its head: where it stands, and the kept member as three numbers
+abbrev member-of : ℕ → ℕ → ℕ → Member
+member-of index flags code = record { index = index; flags = flags; code = code }
+
 pub record Members (s : List ℕ) (j : MemberJudge) (item from count k left p base : ℕ) (later : Bool) (i index flags code : ℕ) : Type 0 where
-  last : Member
-  base-is : last .index ≡ base
-  choosing : Choosing (stepAt s j item) count (begin from) nobody k left (record { place = p; last = last; later = later }) i (record { index = index; flags = flags; code = code })
+  choosing : Choosing (stepAt s j item) count (begin from) nobody k left (record { place = p; base = base; later = later }) i (member-of index flags code)
   pub sum : i + left ≡ count
 
 pub members-first : (s : List ℕ) (j : MemberJudge) (item from count k : ℕ) → Members s j item from count k count from 0 false 0 0 0 0
-members-first s j item from count k = record { last = nobody; base-is = refl; choosing = choosing-first (stepAt s j item) count (begin from) nobody k; sum = omega arith }
+members-first s j item from count k = record { choosing = choosing-first (stepAt s j item) count (begin from) nobody k; sum = omega arith }
 
--- the newer of two members, field by field
-by-fields : (b : Bool) (a c : Member) → record { index = cond b (a .index) (c .index); flags = cond b (a .flags) (c .flags); code = cond b (a .code) (c .code) } ≡ cond b a c
-by-fields true a c = refl
-by-fields false a c = refl
+-- a choice between two members is one for each of their numbers
+chosen : (b : Bool) (new old : Member) → member-of (cond b (new .index) (old .index)) (cond b (new .flags) (old .flags)) (cond b (new .code) (old .code)) ≡ cond b new old
+chosen true new old = refl
+chosen false new old = refl
 
 module _ {s : List ℕ} {j : MemberJudge} {item from count k left p base : ℕ} {later : Bool} {i index flags code : ℕ} (h : Members s j item from count k left p base later i index flags code)
     {x : MemberFoundAnswer} (l : 0 < left) (e : found-outcome x ≡ memberAt s j item base later p) where
-  pub members-next : {a : Member} {n v f c : ℕ} → x ≡ F.Got a n → v ≡ cond (eqb i k) (a .index) index → f ≡ cond (eqb i k) (a .flags) flags → c ≡ cond (eqb i k) (a .code) code
-      → Members s j item from count k (left - 1) n (a .index) true (i + 1) v f c
+  pub members-next : {m : Member} {n a b c : ℕ} → x ≡ F.Got m n → a ≡ cond (eqb i k) (m .index) index → b ≡ cond (eqb i k) (m .flags) flags → c ≡ cond (eqb i k) (m .code) code
+      → Members s j item from count k (left - 1) n (m .index) true (i + 1) a b c
   unfolding stepAt
-  members-next {a} {n} {v} {f} {c} t q r u =
-      let kept : Member = record { index = index; flags = flags; code = code } in
+  members-next {m} t at bt ct =
       record {
-        last = a;
-        base-is = refl;
-        choosing = choosing-next (h .choosing) l (sym (bind-answer _ (sym (sym (ap found-outcome t) ∙ e ∙ ap (λ (b : ℕ). memberAt s j item b later p) (sym (h .base-is)))))) ((λ i. record { index = q i; flags = r i; code = u i }) ∙ by-fields (eqb i k) a kept);
+        choosing = choosing-next (h .choosing) l (sym (bind-answer _ (sym e ∙ ap found-outcome t))) ((λ i. member-of (at i) (bt i) (ct i)) ∙ chosen (eqb i k) m (member-of index flags code));
         sum = let z = h .sum in omega arith;
       }
 
   pub members-stop : {r : Refusal} → x ≡ F.Refused r → refused r ≡ keptMembers s j item from count k
   unfolding keptMembers stepAt
-  members-stop t = sym (bind-refused placed (sym (choosing-stop (h .choosing) l (sym (bind-refused _ (sym (sym (ap found-outcome t) ∙ e ∙ ap (λ (b : ℕ). memberAt s j item b later p) (sym (h .base-is)))))))))
+  members-stop t = sym (bind-refused placed (sym (choosing-stop (h .choosing) l (sym (bind-refused _ (sym e ∙ ap found-outcome t))))))
 
 pub members-done : {s : List ℕ} {j : MemberJudge} {item from count k left p base : ℕ} {later : Bool} {i index flags code : ℕ} → Members s j item from count k left p base later i index flags code
-    → left ≤ 0 → answer (record { item = record { index = index; flags = flags; code = code }; next = p }) ≡ keptMembers s j item from count k
+    → left ≤ 0 → answer (record { item = member-of index flags code; next = p }) ≡ keptMembers s j item from count k
 unfolding keptMembers
 members-done h l = sym (bind-answer placed (sym (choosing-done (h .choosing) l)))
 

@@ -42,23 +42,23 @@ memberAt s j item base later p = do
       (given (ltb (base + d .item) (j .limit)) (wrong-index item)
       (restAt s j item (base + d .item) (d .next)))
 
--- where the going over a list stands: the next place, and the last member if there was one
+-- where the going over a list stands: the next place, the index that the next difference is added to, and whether a member came before
 pub record Run : Type 0 where
   pub place : ℕ
-  pub last : Member
+  pub base : ℕ
   pub later : Bool
 
 unfoldable pub stepAt : List ℕ → MemberJudge → ℕ → Run → Outcome (Found Member Run)
 stepAt s j item t = do
-  m ← memberAt s j item (t .last .index) (t .later) (t .place)
-  answer (record { item = m .item; next = record { place = m .next; last = m .item; later = true } })
+  m ← memberAt s j item (t .base) (t .later) (t .place)
+  answer (record { item = m .item; next = record { place = m .next; base = m .item .index; later = true } })
 
 abbrev pub nobody : Member
 nobody = record { index = 0; flags = 0; code = 0 }
 
 -- "Each of the four lists starts anew."
 abbrev pub begin : ℕ → Run
-begin from = record { place = from; last = nobody; later = false }
+begin from = record { place = from; base = 0; later = false }
 
 unfoldable pub membersAt : List ℕ → MemberJudge → ℕ → ℕ → ℕ → Outcome (Found (List Member) Run)
 membersAt s j item from count = collect count (stepAt s j item) (begin from)

@@ -127,7 +127,7 @@ fn newer(asked: bool, new: u32, old: u32) -> u32
     old
 }
 
-// All members of a list, of which number k is kept, field by field: a copy of the whole would wait for the stores of its fields.
+// All members of a list, of which number k is kept, as three numbers: kept whole, it would be copied for each member of the list.
 pub fn members_at(
     s: &[u8],
     j: MemberJudge,
@@ -139,7 +139,7 @@ pub fn members_at(
     ensures { λ r. ⌜ found-outcome r ≡ keptMembers (now (s .entry)) j item from count k ⌝ }
 {
     let mut p = from;
-    let mut last: u32 = 0;
+    let mut base: u32 = 0;
     let mut later = false;
     let mut index: u32 = 0;
     let mut flags: u32 = 0;
@@ -147,7 +147,7 @@ pub fn members_at(
     let mut i: u32 = 0;
     let mut left = count;
     while 0 < left {
-        match member_found(s, j, item, last, later, p) {
+        match member_found(s, j, item, base, later, p) {
             MemberFoundAnswer::Refused(r) => {
                 return MemberFoundAnswer::Refused(r);
             }
@@ -155,7 +155,7 @@ pub fn members_at(
                 index = newer(i == k, member.index, index);
                 flags = newer(i == k, member.flags, flags);
                 code = newer(i == k, member.code, code);
-                last = member.index;
+                base = member.index;
                 p = next;
             }
         }

@@ -29,7 +29,7 @@ use Rattle.class_data.specs.declared.Methods.{Methods}
 use Rattle.class_members.specs.declared.MemberFoundAnswer.{MemberFoundAnswer}
 use Rattle.class_members.specs.declared.MemberFoundAnswer.the-variants as F
 use Rattle.class_members.specs.Answers.{found-outcome}
-use Rattle.class_members.specs.Members.{Run, memberAt, stepAt, begin, membersAt, nobody}
+use Rattle.class_members.specs.Members.{Run, memberAt, stepAt, begin, membersAt}
 use Rattle.class_data.specs.Data.{ClassData, classDataAt, methodsAt, methods-judge}
 use Rattle.class_members.specs.Rules.{MembersRule}
 use Rattle.class_members.proofs.Exactly.{members-read}
@@ -67,22 +67,22 @@ module _ (s : List ℕ) (f : Frame) where
   unfolding bodyAt outlineAt
   body-by item e = e ∙ sym (kept-part (codeAt s f item) outline _ (λ (o : Outline). debugAccepted s (f .strings) (o .head .debug)) (λ c t. made-kept _ (present (c .head .debug) (debugAt s (f .strings) (c .head .debug)))))
 
--- ---- the loop over methods: p is the next place, after the last method
+-- ---- the loop over methods: p is the next place, base the last method's index
 abbrev going : List ℕ → Frame → ℕ → Run → Outcome (Found (Option Body) Run)
 going s f item = with-below (stepAt s (methods-judge f) item) (methodBelow s f)
 
-abbrev run-of : ℕ → Member → Bool → Run
-run-of p last later = record { place = p; last = last; later = later }
+abbrev run-of : ℕ → ℕ → Bool → Run
+run-of p base later = record { place = p; base = base; later = later }
 
-pub record Going (s : List ℕ) (f : Frame) (item from count left p : ℕ) (last : Member) (later : Bool) : Type 0 where
-  gather : Gather (going s f item) count (begin from) left (record { place = p; last = last; later = later })
+pub record Going (s : List ℕ) (f : Frame) (item from count left p base : ℕ) (later : Bool) : Type 0 where
+  gather : Gather (going s f item) count (begin from) left (run-of p base later)
 
-pub going-first : (s : List ℕ) (f : Frame) (item from count : ℕ) → Going s f item from count count from nobody false
+pub going-first : (s : List ℕ) (f : Frame) (item from count : ℕ) → Going s f item from count count from 0 false
 going-first s f item from count = record { gather = gather-first (going s f item) count (begin from) }
 
-module _ {s : List ℕ} {f : Frame} {item from count left p : ℕ} {last : Member} {later : Bool} (h : Going s f item from count left p last later)
-    {x : MemberFoundAnswer} (l : 0 < left) (e : found-outcome x ≡ memberAt s (methods-judge f) item (last .index) later p) where
-  step-refused : {r : Refusal} → x ≡ F.Refused r → going s f item (run-of p last later) ≡ refused r
+module _ {s : List ℕ} {f : Frame} {item from count left p base : ℕ} {later : Bool} (h : Going s f item from count left p base later)
+    {x : MemberFoundAnswer} (l : 0 < left) (e : found-outcome x ≡ memberAt s (methods-judge f) item base later p) where
+  step-refused : {r : Refusal} → x ≡ F.Refused r → going s f item (run-of p base later) ≡ refused r
   unfolding with-below stepAt
   step-refused t = bind-refused _ (bind-refused _ (sym e ∙ ap found-outcome t))
 
@@ -91,14 +91,14 @@ module _ {s : List ℕ} {f : Frame} {item from count left p : ℕ} {last : Membe
   going-stop t = sym (bind-refused _ (sym (gather-stop (h .gather) l (sym (bind-refused past (step-refused t))))))
 
   module _ {m : Member} {n : ℕ} (t : x ≡ F.Got m n) where
-    step-found : {o : Outcome (Option Body)} → methodBelow s f m ≡ o → going s f item (run-of p last later) ≡ (o >>= λ (b : Option Body). answer (record { item = b; next = run-of n m true }))
+    step-found : {o : Outcome (Option Body)} → methodBelow s f m ≡ o → going s f item (run-of p base later) ≡ (o >>= λ (b : Option Body). answer (record { item = b; next = run-of n (m .index) true }))
     unfolding with-below stepAt
     step-found {o} q =
         bind-answer (λ (r : Found Member Run). methodBelow s f (r .item) >>= λ (b : Option Body). answer (record { item = b; next = r .next })) (bind-answer _ (sym e ∙ ap found-outcome t))
-        ∙ ap (λ (z : Outcome (Option Body)). z >>= λ (b : Option Body). answer (record { item = b; next = run-of n m true })) q
+        ∙ ap (λ (z : Outcome (Option Body)). z >>= λ (b : Option Body). answer (record { item = b; next = run-of n (m .index) true })) q
 
     module _ {y : CheckAnswer} (g : checked-outcome y ≡ (present (m .code) (bodyAt s f (m .code)) >>= accepted)) where
-      pub going-next : y ≡ C.Accepted → Going s f item from count (left - 1) n m true
+      pub going-next : y ≡ C.Accepted → Going s f item from count (left - 1) n (m .index) true
       unfolding methodBelow
       going-next u =
           let found = accepted-answer (present (m .code) (bodyAt s f (m .code))) (sym (ap checked-outcome u) ∙ g) in
@@ -110,33 +110,9 @@ module _ {s : List ℕ} {f : Frame} {item from count left p : ℕ} {last : Membe
           let broken = accepted-refused (present (m .code) (bodyAt s f (m .code))) (sym (ap checked-outcome u) ∙ g) in
           sym (bind-refused _ (sym (gather-stop (h .gather) l (sym (bind-refused past (step-found broken ∙ bind-refused _ refl))))))
 
-pub going-done : {s : List ℕ} {f : Frame} {item from count left p : ℕ} {last : Member} {later : Bool} → Going s f item from count left p last later → left ≤ 0 → answer p ≡ methodsPass s f item from count
+pub going-done : {s : List ℕ} {f : Frame} {item from count left p base : ℕ} {later : Bool} → Going s f item from count left p base later → left ≤ 0 → answer p ≡ methodsPass s f item from count
 unfolding methodsPass
 going-done h l = let r = gather-done (h .gather) l in sym (bind-answer _ (sym (r .1 .0)) ∙ ap (λ (t : Run). answer (t .place)) (r .1 .1))
-
--- ---- the same, where of the last member its index alone is held
-pub record Goes (s : List ℕ) (f : Frame) (item from count left p base : ℕ) (later : Bool) : Type 0 where
-  last : Member
-  base-is : last .index ≡ base
-  goes : Going s f item from count left p last later
-
-pub goes-first : (s : List ℕ) (f : Frame) (item from count : ℕ) → Goes s f item from count count from 0 false
-goes-first s f item from count = record { last = nobody; base-is = refl; goes = going-first s f item from count }
-
-module _ {s : List ℕ} {f : Frame} {item from count left p base : ℕ} {later : Bool} (h : Goes s f item from count left p base later)
-    {x : MemberFoundAnswer} (l : 0 < left) (e : found-outcome x ≡ memberAt s (methods-judge f) item base later p) where
-  pub goes-stop : {r : Refusal} → x ≡ F.Refused r → refused r ≡ methodsPass s f item from count
-  goes-stop t = going-stop (h .goes) l (e ∙ ap (λ (b : ℕ). memberAt s (methods-judge f) item b later p) (sym (h .base-is))) t
-
-  module _ {m : Member} {n : ℕ} (t : x ≡ F.Got m n) {y : CheckAnswer} (g : checked-outcome y ≡ (present (m .code) (bodyAt s f (m .code)) >>= accepted)) where
-    pub goes-next : y ≡ C.Accepted → Goes s f item from count (left - 1) n (m .index) true
-    goes-next u = record { last = m; base-is = refl; goes = going-next (h .goes) l (e ∙ ap (λ (b : ℕ). memberAt s (methods-judge f) item b later p) (sym (h .base-is))) t g u }
-
-    pub goes-fail : {r : Refusal} → y ≡ C.Refused r → refused r ≡ methodsPass s f item from count
-    goes-fail u = going-fail (h .goes) l (e ∙ ap (λ (b : ℕ). memberAt s (methods-judge f) item b later p) (sym (h .base-is))) t g u
-
-pub goes-done : {s : List ℕ} {f : Frame} {item from count left p base : ℕ} {later : Bool} → Goes s f item from count left p base later → left ≤ 0 → answer p ≡ methodsPass s f item from count
-goes-done h l = going-done (h .goes) l
 
 -- ---- class data: what is gone over a second time is what was read
 module _ (s : List ℕ) (f : Frame) (item : ℕ) where
@@ -217,7 +193,7 @@ module _ (f : List ℕ) (h : Header) (handles : ℕ) where
 
 pub ruleset body-laws = (debug-by, on-debug, body-by, on-code, kept, calls, tests, needs)
 
-pub ruleset loop-laws = (goes-first, goes-next, goes-stop, goes-fail, goes-done, needs)
+pub ruleset loop-laws = (going-first, going-next, going-stop, going-fail, going-done, needs)
 
 pub ruleset data-laws = (data-by, on-methods, on-passed, calls, needs)
 

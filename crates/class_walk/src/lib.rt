@@ -75,11 +75,11 @@ fn methods_pass(s: &[u8], frame: Frame, item: usize, from: usize, count: u32) ->
         start: frame.start,
     };
     let mut p = from;
-    let mut last: u32 = 0;
+    let mut base: u32 = 0;
     let mut later = false;
     let mut left = count;
     while 0 < left {
-        match class_members::member_found(s, judge, item, last, later, p) {
+        match class_members::member_found(s, judge, item, base, later, p) {
             MemberFoundAnswer::Refused(r) => {
                 return PassedAnswer::Refused(r);
             }
@@ -88,7 +88,7 @@ fn methods_pass(s: &[u8], frame: Frame, item: usize, from: usize, count: u32) ->
                     return PassedAnswer::Refused(r);
                 }
                 CheckAnswer::Accepted => {
-                    last = member.index;
+                    base = member.index;
                     p = next;
                 }
             },

@@ -4,7 +4,7 @@ use mathlib.Core.Bool.{true, cond}
 use mathlib.Core.List.{List}
 use lib.Dec.{ltb, leb}
 use Rattle.refusal.specs.Refusals.{out-of-order, unknown-kind, wrong-index, wrong-offset}
-use Rattle.refusal.specs.Outcome.{Outcome, answer, _>>=_, given, accepted}
+use Rattle.refusal.specs.Outcome.{Outcome, answer, given}
 use Rattle.refusal.specs.Rows.{in-turn}
 use Rattle.word.specs.Words.{u16At, u32At}
 use Rattle.frame.specs.declared.Frame.{Frame}
@@ -45,10 +45,6 @@ memberIdOf frame kinds place class kind name =
 
 unfoldable pub memberIdAt : List ℕ → Frame → ℕ → ℕ → ℕ → Outcome MemberId
 memberIdAt f frame kinds offset n = memberIdOf frame kinds (offset + 8 * n) (u16At (frame .order) f (offset + 8 * n)) (u16At (frame .order) f (offset + 8 * n + 2)) (u32At (frame .order) f (offset + 8 * n + 4))
-
--- a stage of the code: nothing of it is kept but that it obeys its rules
-abbrev pub memberIdChecked : List ℕ → Frame → ℕ → ℕ → ℕ → Outcome Unit
-memberIdChecked f frame kinds offset n = memberIdAt f frame kinds offset n >>= accepted
 
 -- "Handle types 0 to 3 name a field, 4 to 8 a method."
 unfoldable pub handleOf : Frame → ℕ → ℕ → ℕ → Outcome Handle

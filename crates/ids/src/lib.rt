@@ -1,10 +1,8 @@
 // The records of types, protos, fields, methods and method handles. Each is read by where its table begins and its number in it.
 use frame::Frame;
-use refusal::CheckAnswer;
 use refusal::Refusal;
 ghost use mathlib.Core.Path.{_≡_};
-ghost use Rattle.refusal.specs.Answers.{checked-outcome};
-ghost use Rattle.ids.specs.Records.{typeAt, protoAt, memberIdAt, memberIdChecked, handleAt};
+ghost use Rattle.ids.specs.Records.{typeAt, protoAt, memberIdAt, handleAt};
 ghost use Rattle.ids.specs.Answers.{index-outcome, proto-outcome, member-id-outcome, handle-outcome};
 
 pub enum IndexAnswer {
@@ -85,9 +83,9 @@ pub fn proto_at(f: &[u8], frame: Frame, end: usize, offset: u32, n: u32) -> Prot
     ProtoAnswer::Refused(refusal::wrong_offset(place))
 }
 
-// A field's or a method's own rules: `kinds` is how many types or protos there are. Nothing is handed out, so that a loop over them copies nothing.
-pub fn check_member(f: &[u8], frame: Frame, kinds: u32, offset: u32, n: u32) -> CheckAnswer
-    ensures { λ a. ⌜ checked-outcome a ≡ memberIdChecked (now (f .entry)) frame kinds offset n ⌝ }
+// A field's or a method's own rules: `kinds` is how many types or protos there are.
+pub fn member_at(f: &[u8], frame: Frame, kinds: u32, offset: u32, n: u32) -> MemberIdAnswer
+    ensures { λ a. ⌜ member-id-outcome a ≡ memberIdAt (now (f .entry)) frame kinds offset n ⌝ }
 {
     let order = frame.order;
     let place = offset as usize + 8 * n as usize;
@@ -95,31 +93,15 @@ pub fn check_member(f: &[u8], frame: Frame, kinds: u32, offset: u32, n: u32) -> 
     let kind = word::u16_at(f, place + 2, order) as u32;
     let name = word::u32_at(f, place + 4, order);
     if frame.types <= class {
-        return CheckAnswer::Refused(refusal::wrong_index(place));
+        return MemberIdAnswer::Refused(refusal::wrong_index(place));
     }
     if kinds <= kind {
-        return CheckAnswer::Refused(refusal::wrong_index(place));
+        return MemberIdAnswer::Refused(refusal::wrong_index(place));
     }
     if frame.strings <= name {
-        return CheckAnswer::Refused(refusal::wrong_index(place));
+        return MemberIdAnswer::Refused(refusal::wrong_index(place));
     }
-    CheckAnswer::Accepted
-}
-
-// A field or a method, where it obeys them.
-pub fn member_at(f: &[u8], frame: Frame, kinds: u32, offset: u32, n: u32) -> MemberIdAnswer
-    ensures { λ a. ⌜ member-id-outcome a ≡ memberIdAt (now (f .entry)) frame kinds offset n ⌝ }
-{
-    let order = frame.order;
-    let place = offset as usize + 8 * n as usize;
-    match check_member(f, frame, kinds, offset, n) {
-        CheckAnswer::Refused(a) => MemberIdAnswer::Refused(a),
-        CheckAnswer::Accepted => MemberIdAnswer::Got(MemberId {
-            class: word::u16_at(f, place, order) as u32,
-            kind: word::u16_at(f, place + 2, order) as u32,
-            name: word::u32_at(f, place + 4, order),
-        }),
-    }
+    MemberIdAnswer::Got(MemberId { class, kind, name })
 }
 
 // A method handle's own rules: its kind, then the field or the method.

@@ -26,6 +26,9 @@ rising later last string = follows ltb (last-of later last) string
 abbrev pub typesPass : List ℕ → Frame → ℕ → ℕ → Outcome Unit
 typesPass f frame offset count = typesAt f frame offset count >>= accepted
 
+abbrev pub memberPass : List ℕ → Frame → ℕ → ℕ → ℕ → Outcome Unit
+memberPass f frame kinds offset n = memberIdAt f frame kinds offset n >>= accepted
+
 abbrev pub membersPass : List ℕ → Frame → ℕ → ℕ → ℕ → Outcome Unit
 membersPass f frame kinds offset count = every (memberIdAt f frame kinds offset) count >>= accepted
 

@@ -3,13 +3,14 @@ use frame::Frame;
 use header::Header;
 use ids::HandleAnswer;
 use ids::IndexAnswer;
+use ids::MemberIdAnswer;
 use ids::ProtoAnswer;
 use refusal::CheckAnswer;
 use refusal::Refusal;
 ghost use mathlib.Core.Path.{_≡_};
 ghost use Prim.Native.Nat.{_+_, _*_};
 ghost use Rattle.refusal.specs.Answers.{checked-outcome};
-ghost use Rattle.whole_check.specs.Passes.{rising, typesPass, protoPass, protosPass, membersPass, handlePass, handlesPass, classesPass};
+ghost use Rattle.whole_check.specs.Passes.{rising, typesPass, protoPass, protosPass, memberPass, membersPass, handlePass, handlesPass, classesPass};
 
 // Does a type's string come after the last one, if there was one.
 fn rises(later: bool, last: u32, string: u32) -> bool
@@ -89,14 +90,23 @@ pub fn protos_pass(f: &[u8], header: Header, count: u32) -> CheckAnswer
     CheckAnswer::Accepted
 }
 
-// The fields or the methods: `kinds` counts types for fields, protos for methods.
+// Field or method n: `kinds` counts types for a field, protos for a method.
+fn member_pass(f: &[u8], frame: Frame, kinds: u32, offset: u32, n: u32) -> CheckAnswer
+    ensures { λ a. ⌜ checked-outcome a ≡ memberPass (now (f .entry)) frame kinds offset n ⌝ }
+{
+    match ids::member_at(f, frame, kinds, offset, n) {
+        MemberIdAnswer::Refused(a) => CheckAnswer::Refused(a),
+        MemberIdAnswer::Got(_) => CheckAnswer::Accepted,
+    }
+}
+
 pub fn members_pass(f: &[u8], frame: Frame, kinds: u32, offset: u32, count: u32) -> CheckAnswer
     ensures { λ a. ⌜ checked-outcome a ≡ membersPass (now (f .entry)) frame kinds offset count ⌝ }
 {
     let mut k: u32 = 0;
     let mut left = count;
     while 0 < left {
-        match ids::check_member(f, frame, kinds, offset, k) {
+        match member_pass(f, frame, kinds, offset, k) {
             CheckAnswer::Refused(a) => {
                 return CheckAnswer::Refused(a);
             }

@@ -1,9 +1,10 @@
-use Rattle.class_data.proofs.Laws.{methodsStaged, stage-laws as laws}
+use Rattle.class_data.proofs.Laws.{stage-laws as laws}
 use Rattle.class_data.proofs.methods_at.Statement.{statement}
 use Rattle.class_data.proofs.methods_at.Tie as tie
 use Rattle.class_data.proofs.methods_at.Reads as reads
 use Rattle.class_data.proofs.methods_at.Lts as lts
 use Rattle.class_data.proofs.counts_at.Reads as counts-at-reads
+use Rattle.class_data.proofs.methods_from.Reads as methods-from-reads
 use Rattle.class_data.proofs.two_at.Reads as two-at-reads
 
 counts-at-requires : tie.Need-counts-at-requires
@@ -21,33 +22,20 @@ two-at-requires c κs = search laws depth 9
 enum-known-r-2 : tie.Need-enum-known-r-2
 enum-known-r-2 c = search laws depth 9
 
-enum-known-middle : tie.Need-enum-known-middle
-enum-known-middle c = search laws depth 9
+enum-known-from : tie.Need-enum-known-from
+enum-known-from c = search laws depth 9
 
-two-at-requires-2 : tie.Need-two-at-requires-2
-two-at-requires-2 c κs = search laws depth 9
-
-enum-known-r-3 : tie.Need-enum-known-r-3
-enum-known-r-3 c = search laws depth 9
-
-enum-told : tie.Need-enum-told
-enum-told c = search laws depth 9
+methods-from-requires : tie.Need-methods-from-requires
+methods-from-requires c κs = search laws depth 9
 
 returns : tie.Need-returns
-unfolding methodsStaged
 returns c = search laws depth 9
 
 returns-2 : tie.Need-returns-2
-unfolding methodsStaged
 returns-2 c = search laws depth 9
 
 returns-3 : tie.Need-returns-3
-unfolding methodsStaged
 returns-3 c = search laws depth 9
-
-returns-4 : tie.Need-returns-4
-unfolding methodsStaged
-returns-4 c = search laws depth 9
 
 pub methods-at-spec : {M : Type 1} → statement M
 methods-at-spec =
@@ -58,11 +46,8 @@ methods-at-spec =
     enum-known-counts
     two-at-requires
     enum-known-r-2
-    enum-known-middle
-    two-at-requires-2
-    enum-known-r-3
-    enum-told
+    enum-known-from
+    methods-from-requires
     returns
     returns-2
-    returns-3
-    returns-4)
+    returns-3)

@@ -7,10 +7,10 @@ use Rattle.class_members.proofs.member_found.Reads as member-found-read
 use Rattle.class_members.proofs.newer.Reads as newer-reads
 
 abbrev Inv-loop : tie.InvT-loop
-Inv-loop s j item from count k p₀ last₀ later₀ index₀ flags₀ code₀ i₀ left₀ p last later index flags code i left = Members s j item from count k left p last later i index flags code
+Inv-loop s j item from count k p₀ base₀ later₀ index₀ flags₀ code₀ i₀ left₀ p base later index flags code i left = Members s j item from count k left p base later i index flags code
 
 abbrev μ-loop : tie.MeasureT-loop
-μ-loop s j item from count k p₀ last₀ later₀ index₀ flags₀ code₀ i₀ left₀ p last later index flags code i left = left
+μ-loop s j item from count k p₀ base₀ later₀ index₀ flags₀ code₀ i₀ left₀ p base later index flags code i left = left
 
 loop-holds : tie.Need-loop-holds Inv-loop μ-loop
 loop-holds c = search laws

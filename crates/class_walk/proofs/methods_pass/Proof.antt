@@ -1,4 +1,4 @@
-use Rattle.class_walk.proofs.Laws.{Goes, loop-laws as laws}
+use Rattle.class_walk.proofs.Laws.{Going, loop-laws as laws}
 use Rattle.class_walk.proofs.methods_pass.Statement.{statement}
 use Rattle.class_walk.proofs.methods_pass.Tie as tie
 use Rattle.class_walk.proofs.methods_pass.Reads as reads
@@ -7,10 +7,10 @@ use Rattle.class_members.proofs.member_found.Reads as member-found-reads
 use Rattle.class_walk.proofs.method_below.Reads as method-below-reads
 
 abbrev Inv-loop : tie.InvT-loop
-Inv-loop s f item from count judge p₀ last₀ later₀ left₀ p last later left = Goes s f item from count left p last later
+Inv-loop s f item from count judge p₀ base₀ later₀ left₀ p base later left = Going s f item from count left p base later
 
 abbrev μ-loop : tie.MeasureT-loop
-μ-loop s f item from count judge p₀ last₀ later₀ left₀ p last later left = left
+μ-loop s f item from count judge p₀ base₀ later₀ left₀ p base later left = left
 
 loop-holds : tie.Need-loop-holds Inv-loop μ-loop
 loop-holds c = search laws

@@ -4,7 +4,7 @@ use Rattle.whole_check.proofs.tables.members_pass.Statement.{statement}
 use Rattle.whole_check.proofs.tables.members_pass.Tie as tie
 use Rattle.whole_check.proofs.tables.members_pass.Reads as reads
 use Rattle.whole_check.proofs.tables.members_pass.Lts as lts
-use Rattle.ids.proofs.check_member.Reads as check-member-reads
+use Rattle.whole_check.proofs.tables.member_pass.Reads as member-pass-reads
 
 abbrev Inv-loop : tie.InvT-loop
 Inv-loop f r kinds offset count k₀ left₀ k left = Counting (memberIdAt f r kinds offset) count left k
@@ -15,8 +15,8 @@ abbrev μ-loop : tie.MeasureT-loop
 loop-holds : tie.Need-loop-holds Inv-loop μ-loop
 loop-holds c = search laws
 
-check-member-requires : tie.Need-check-member-requires Inv-loop μ-loop
-check-member-requires c κs = search laws
+member-pass-requires : tie.Need-member-pass-requires Inv-loop μ-loop
+member-pass-requires c κs = search laws
 
 enum-known-a : tie.Need-enum-known-a Inv-loop μ-loop
 enum-known-a c = search laws
@@ -49,7 +49,7 @@ members-pass-spec =
     Inv-loop
     μ-loop
     loop-holds
-    check-member-requires
+    member-pass-requires
     enum-known-a
     returns
     enum-told
