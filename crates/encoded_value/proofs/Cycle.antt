@@ -1,12 +1,9 @@
 -- What the proof of the cycle cites: the ways through a value, and the loop over the values of a body.
 -- Assumes nothing.
-use Prim.{tt}
 use Prim.Native.Nat.{ℕ, zero, suc, _+_, _-_, _%_, _<_, _≤_}
-use mathlib.Core.Path.{_≡_, refl, ap, sym, subst, _∙_}
+use mathlib.Core.Path.{_≡_, refl, ap, sym, _∙_}
 use mathlib.Core.Bool.{Bool, true, false}
 use mathlib.Core.List.{List}
-use lib.ListN.{length, take, drop}
-use lib.Seq.{take-length}
 use borrow.Author.Needs.{needs}
 use borrow.Author.Tests.{eq-eqb, ne-eqb}
 use native.Mathlib.Omega.{arith}
@@ -31,9 +28,7 @@ use Rattle.value_heads.specs.declared.HeadByteAnswer.the-variants as H
 use Rattle.encoded_value.specs.Tree.{Tree, Named, Annotation}
 use Rattle.encoded_value.specs.Readings.{plainAt, startAt, arrayWith, namedWith, annotationWith, as-array, as-annotation, kindWith, valueWith, valueAt, arrayAt, annotationAt, pastValue, pastArray, pastAnnotation, pastNamed, pastPlain}
 use Rattle.encoded_value.specs.Answers.{step-outcome}
-use Rattle.encoded_value.specs.Stages.{Bodyless, indexPast, pastInner, pastValues, pastBody}
-use Rattle.encoded_value.specs.declared.BodylessAnswer.{BodylessAnswer}
-use Rattle.encoded_value.specs.declared.BodylessAnswer.the-variants as B
+use Rattle.encoded_value.specs.Stages.{indexPast, pastInside, pastInner, pastValues, pastBody}
 use Rattle.encoded_value.proofs.Leaves.{past-made}
 
 module _ (s : List ℕ) (w : Walk) where
@@ -79,36 +74,21 @@ module _ (s : List ℕ) (w : Walk) where
     unfolding valueWith
     value-kind t = ap (λ (f : ℕ → Outcome (Found Tree ℕ)). f p) (value-open left) ∙ bind-answer _ (sym (sym (ap head-byte-outcome t) ∙ e))
 
-    module _ {h : ℕ} (t : x ≡ H.Got h) {y : Outcome ℕ} where
-      pub value-array : h % 32 ≡ 0x1c → y ≡ pastArray s w left (p + 1) → y ≡ pastValue s w left p
-      value-array c k =
-          k ∙ past-made _ (arrayAt s w left (p + 1)) ∙ sym (ap (λ (o : Outcome (Found Tree ℕ)). o >>= past) (value-kind t ∙ kind-array (arrayAt s w left) (annotationAt s w left) h (p + 1) c))
+    pub value-inside : {h : ℕ} {y : Outcome ℕ} → x ≡ H.Got h → y ≡ pastInside s w left h (p + 1) → y ≡ pastValue s w left p
+    value-inside t k = k ∙ sym (ap (λ (o : Outcome (Found Tree ℕ)). o >>= past) (value-kind t))
 
-      pub value-annotation : (h % 32 ≡ 0x1c → ⊥) → h % 32 ≡ 0x1d → y ≡ pastAnnotation s w left (p + 1) → y ≡ pastValue s w left p
-      value-annotation n c k =
-          k ∙ past-made _ (annotationAt s w left (p + 1)) ∙ sym (ap (λ (o : Outcome (Found Tree ℕ)). o >>= past) (value-kind t ∙ kind-annotation (arrayAt s w left) (annotationAt s w left) h (p + 1) n c))
+  -- ---- behind a head byte
+  module _ (left h p : ℕ) {y : Outcome ℕ} where
+    pub inside-array : h % 32 ≡ 0x1c → y ≡ pastBody s w false left p → y ≡ pastInside s w left h p
+    unfolding pastBody
+    inside-array c k = k ∙ past-made _ (arrayAt s w left p) ∙ sym (ap (λ (o : Outcome (Found Tree ℕ)). o >>= past) (kind-array (arrayAt s w left) (annotationAt s w left) h p c))
 
-      pub value-plain : (h % 32 ≡ 0x1c → ⊥) → (h % 32 ≡ 0x1d → ⊥) → y ≡ pastPlain s w h (p + 1) → y ≡ pastValue s w left p
-      value-plain n m k = k ∙ sym (ap (λ (o : Outcome (Found Tree ℕ)). o >>= past) (value-kind t ∙ kind-plain (arrayAt s w left) (annotationAt s w left) h (p + 1) n m))
+    pub inside-annotation : (h % 32 ≡ 0x1c → ⊥) → h % 32 ≡ 0x1d → y ≡ pastBody s w true left p → y ≡ pastInside s w left h p
+    unfolding pastBody
+    inside-annotation n c k = k ∙ past-made _ (annotationAt s w left p) ∙ sym (ap (λ (o : Outcome (Found Tree ℕ)). o >>= past) (kind-annotation (arrayAt s w left) (annotationAt s w left) h p n c))
 
-  -- ---- a value that opens no body
-  pub bodyless-body : (p : ℕ) → Bodyless s w p B.Body
-  unfolding Bodyless
-  bodyless-body p = tt
-
-  module _ (p : ℕ) {x : HeadByteAnswer} (e : head-byte-outcome x ≡ headByteAt s (w .item) p) where
-    pub bodyless-headless : {r : Refusal} → x ≡ H.Refused r → Bodyless s w p (B.Refused r)
-    unfolding Bodyless
-    bodyless-headless t = λ left. value-refused left p e t
-
-    module _ {h : ℕ} (t : x ≡ H.Got h) (n : h % 32 ≡ 0x1c → ⊥) (m : h % 32 ≡ 0x1d → ⊥) {y : StepAnswer} (k : step-outcome y ≡ pastPlain s w h (p + 1)) where
-      pub bodyless-next : {q : ℕ} → y ≡ S.Next q → Bodyless s w p (B.Next q)
-      unfolding Bodyless
-      bodyless-next v = λ left. value-plain left p e t n m (sym (ap step-outcome v) ∙ k)
-
-      pub bodyless-refused : {r : Refusal} → y ≡ S.Refused r → Bodyless s w p (B.Refused r)
-      unfolding Bodyless
-      bodyless-refused v = λ left. value-plain left p e t n m (sym (ap step-outcome v) ∙ k)
+    pub inside-plain : (h % 32 ≡ 0x1c → ⊥) → (h % 32 ≡ 0x1d → ⊥) → y ≡ pastPlain s w h p → y ≡ pastInside s w left h p
+    inside-plain n m k = k ∙ sym (ap (λ (o : Outcome (Found Tree ℕ)). o >>= past) (kind-plain (arrayAt s w left) (annotationAt s w left) h p n m))
 
   -- ---- a body that may not be opened
   pub body-deep : (named : Bool) (left p : ℕ) → left ≤ 0 → refused (nested-too-deep (w .item)) ≡ pastBody s w named left p
@@ -213,34 +193,19 @@ module _ {s : List ℕ} {w : Walk} {named : Bool} {left from count more p : ℕ}
     turn-off : {r : Refusal} → refused r ≡ pastValue s w left at → refused r ≡ pastValues s w named left count from
     turn-off k = walk-stop (h .loop) l (k ∙ sym inner)
 
-    -- over a value that opens no body
-    module _ {y : BodylessAnswer} (f : Bodyless s w at y) where
-      pub bodyless-turn : {q : ℕ} → y ≡ B.Next q → Values s w named left from count (more - 1) q
-      unfolding Bodyless
-      bodyless-turn u = turn-on (subst (Bodyless s w at) u f left)
+    -- a value: its head byte, and what stands behind it
+    module _ {y : HeadByteAnswer} (g : head-byte-outcome y ≡ headByteAt s (w .item) at) where
+      pub head-stop : {r : Refusal} → y ≡ H.Refused r → refused r ≡ pastValues s w named left count from
+      head-stop u = turn-off (value-refused s w left at g u)
 
-      pub bodyless-stop : {r : Refusal} → y ≡ B.Refused r → refused r ≡ pastValues s w named left count from
-      unfolding Bodyless
-      bodyless-stop u = turn-off (subst (Bodyless s w at) u f left)
+      module _ {b : ℕ} (u : y ≡ H.Got b) {z : StepAnswer} (k : step-outcome z ≡ pastInside s w left b (at + 1)) where
+        pub inside-turn : {q : ℕ} → z ≡ S.Next q → Values s w named left from count (more - 1) q
+        inside-turn v = turn-on (value-inside s w left at g u (sym (ap step-outcome v) ∙ k))
 
-    -- over one that does, by a call on the same slice and the same counts, made anew
-    module _ {s' : List ℕ} {w' : Walk} (same : s' ≡ s) (kept : w' ≡ w) where
-      moved : pastValue s' w' left at ≡ pastValue s w left at
-      moved = λ i. pastValue (same i) (kept i) left at
+        pub inside-stop : {r : Refusal} → z ≡ S.Refused r → refused r ≡ pastValues s w named left count from
+        inside-stop v = turn-off (value-inside s w left at g u (sym (ap step-outcome v) ∙ k))
 
-      pub body-turn : {y : StepAnswer} {q : ℕ} → step-outcome y ≡ pastValue s' w' left at → y ≡ S.Next q → Values s w named left from count (more - 1) q
-      body-turn f u = turn-on (sym (ap step-outcome u) ∙ f ∙ moved)
+pub ruleset cycle-laws = (after-head, inside-array, inside-annotation, inside-plain, body-deep, front-refused, size-refused, size-got, values-first, values-done, name-stop, head-stop, inside-turn, inside-stop, needs)
 
-      pub body-stop : {y : StepAnswer} {r : Refusal} → step-outcome y ≡ pastValue s' w' left at → y ≡ S.Refused r → refused r ≡ pastValues s w named left count from
-      body-stop f u = turn-off (sym (ap step-outcome u) ∙ f ∙ moved)
-
--- all of a slice
-pub all-of : (s : List ℕ) → take (length s - 0) (drop 0 s) ≡ s
-all-of s = let size : length s - 0 ≡ length s = omega arith in ap (λ (n : ℕ). take n (drop 0 s)) size ∙ take-length s
-
-pub ruleset anew-laws = (all-of, needs)
-
-pub ruleset cycle-laws = (after-head, value-refused, value-array, value-annotation, value-plain, body-deep, front-refused, size-refused, size-got, array-by, annotation-by, values-first, values-done, name-stop, bodyless-turn, bodyless-stop, body-turn, body-stop, needs)
-
--- what a value that opens no body is searched with
-pub ruleset bodyless-laws = (after-head, bodyless-body, bodyless-headless, bodyless-next, bodyless-refused, needs)
+-- what stands over the cycle: a value by itself, and the two bodies by their names
+pub ruleset over-laws = (after-head, value-refused, value-inside, inside-array, inside-annotation, inside-plain, array-by, annotation-by, needs)

@@ -1,22 +1,16 @@
--- Stages of the code: a value that opens no body, and one going over for both bodies.
-use Prim.{Unit}
+-- Stages of the code: what stands behind a head byte, and one going over for both bodies.
 use Prim.Native.Nat.{ℕ}
-use mathlib.Core.Path.{_≡_}
 use mathlib.Core.Bool.{Bool, true, false}
 use mathlib.Core.List.{List}
-use Rattle.refusal.specs.Outcome.{Outcome, answer, refused, _>>=_}
+use Rattle.refusal.specs.Outcome.{Outcome, answer, _>>=_}
 use Rattle.refusal.specs.Rows.{past, repeat}
 use Rattle.value_heads.specs.declared.Walk.{Walk}
 use Rattle.value_heads.specs.Readings.{indexAt}
-use Rattle.encoded_value.specs.declared.BodylessAnswer.{BodylessAnswer}
-use Rattle.encoded_value.specs.declared.BodylessAnswer.the-variants.{Next, Refused, Body}
-use Rattle.encoded_value.specs.Readings.{pastValue, pastArray, pastAnnotation}
+use Rattle.encoded_value.specs.Readings.{kindWith, arrayAt, annotationAt, pastValue, pastArray, pastAnnotation}
 
--- where a value that opens no body ends, at any depth. Of one that opens a body nothing is said
-unfoldable pub Bodyless : List ℕ → Walk → ℕ → BodylessAnswer → Type 0
-Bodyless s w p (Next q) = (left : ℕ) → answer q ≡ pastValue s w left p
-Bodyless s w p (Refused r) = (left : ℕ) → refused r ≡ pastValue s w left p
-Bodyless s w p Body = Unit {0}
+-- what stands behind a head byte h
+abbrev pub pastInside : List ℕ → Walk → ℕ → ℕ → ℕ → Outcome ℕ
+pastInside s w left h p = kindWith s w (arrayAt s w left) (annotationAt s w left) h p >>= past
 
 -- an index below the count, in an annotation alone
 unfoldable pub indexPast : List ℕ → ℕ → Bool → ℕ → ℕ → Outcome ℕ

@@ -10,7 +10,7 @@ ghost use Rattle.value_heads.specs.Kinds.{bytes-of};
 ghost use Rattle.encoded_value.specs.Readings.{startAt, pastNumber, pastPlain, pastValue, pastArray, pastAnnotation};
 ghost use Rattle.encoded_value.specs.Depth.{deepest};
 ghost use Rattle.encoded_value.specs.Answers.{step-outcome};
-ghost use Rattle.encoded_value.specs.Stages.{Bodyless, indexPast, pastValues, pastBody};
+ghost use Rattle.encoded_value.specs.Stages.{indexPast, pastInside, pastValues, pastBody};
 ghost use Rattle.leb128.specs.Answers.{leb-outcome};
 
 // How deep bodies may lie one inside the other: `deepest` in the definitions.
@@ -56,35 +56,6 @@ fn plain_past(s: &[u8], w: Walk, at: usize, head: u8) -> StepAnswer
     bytes_past(s, w.item, at, head)
 }
 
-// A value that opens no body: where to go on. Of one that opens a body nothing is said.
-pub enum BodylessAnswer {
-    Next(usize),
-    Refused(Refusal),
-    Body,
-}
-
-// A value, if it opens no body. Most open none: the loop over values that has this compiled in then calls nothing.
-fn bodyless_at(s: &[u8], w: Walk, at: usize) -> BodylessAnswer
-    ensures { λ r. ⌜ Bodyless (now (s .entry)) w at r ⌝ }
-{
-    match value_heads::head_at(s, w.item, at) {
-        HeadByteAnswer::Refused(r) => BodylessAnswer::Refused(r),
-        HeadByteAnswer::Got(head) => {
-            let code = head % 32;
-            if code == 0x1c {
-                return BodylessAnswer::Body;
-            }
-            if code == 0x1d {
-                return BodylessAnswer::Body;
-            }
-            match plain_past(s, w, at + 1, head) {
-                StepAnswer::Refused(r) => BodylessAnswer::Refused(r),
-                StepAnswer::Next(q) => BodylessAnswer::Next(q),
-            }
-        }
-    }
-}
-
 // The index that an annotation has in front of its values (its type) and of each of them (its name), gone over. An array has none.
 fn index_past(s: &[u8], item: usize, named: bool, count: u32, at: usize) -> StepAnswer
     ensures { λ r. ⌜ step-outcome r ≡ indexPast (now (s .entry)) item named count at ⌝ }
@@ -102,46 +73,18 @@ fn index_past(s: &[u8], item: usize, named: bool, count: u32, at: usize) -> Step
     StepAnswer::Next(at)
 }
 
-// The slice and what stays the same, made anew for a nested call: a function that lends on what it was lent must copy it as it is entered, and
-// waits for the stores of its parts.
-fn slice_anew(s: &[u8]) -> &[u8]
-    ensures { λ r. ⌜ now r ≡ now (s .entry) ⌝ }
+// What stands behind a head byte: the body that it opens, or its bytes. The loop over values is the one caller, and has this compiled in: most values open no body.
+fn inside_past(s: &[u8], w: Walk, head: u8, at: usize, left: u32) -> StepAnswer
+    ensures { λ r. ⌜ step-outcome r ≡ pastInside (now (s .entry)) w left head at ⌝ }
 {
-    let n = s.len();
-    &s[0..n]
-}
-
-fn walk_anew(w: Walk) -> Walk
-    ensures { λ r. ⌜ r ≡ w ⌝ }
-{
-    Walk {
-        item: w.item,
-        strings: w.strings,
-        types: w.types,
-        protos: w.protos,
-        fields: w.fields,
-        methods: w.methods,
-        handles: w.handles,
+    let code = head % 32;
+    if code == 0x1c {
+        return body_past(s, w, false, at, left);
     }
-}
-
-// A value: its head byte, then the body that it opens, or its bytes.
-pub fn value(s: &[u8], w: Walk, at: usize, left: u32) -> StepAnswer
-    ensures { λ r. ⌜ step-outcome r ≡ pastValue (now (s .entry)) w left at ⌝ }
-{
-    match value_heads::head_at(s, w.item, at) {
-        HeadByteAnswer::Refused(r) => StepAnswer::Refused(r),
-        HeadByteAnswer::Got(head) => {
-            let code = head % 32;
-            if code == 0x1c {
-                return array_body(s, w, at + 1, left);
-            }
-            if code == 0x1d {
-                return annotation_body(s, w, at + 1, left);
-            }
-            plain_past(s, w, at + 1, head)
-        }
+    if code == 0x1d {
+        return body_past(s, w, true, at, left);
     }
+    plain_past(s, w, at, head)
 }
 
 // The values of a body, each with its name in front where the body is an annotation.
@@ -155,16 +98,11 @@ fn values_past(s: &[u8], w: Walk, named: bool, from: usize, count: u32, left: u3
             StepAnswer::Refused(r) => {
                 return StepAnswer::Refused(r);
             }
-            StepAnswer::Next(at) => match bodyless_at(s, w, at) {
-                BodylessAnswer::Refused(r) => {
+            StepAnswer::Next(at) => match value_heads::head_at(s, w.item, at) {
+                HeadByteAnswer::Refused(r) => {
                     return StepAnswer::Refused(r);
                 }
-                BodylessAnswer::Next(q) => {
-                    p = q;
-                    more -= 1;
-                    continue;
-                }
-                BodylessAnswer::Body => match value(slice_anew(s), walk_anew(w), at, left) {
+                HeadByteAnswer::Got(head) => match inside_past(s, w, head, at + 1, left) {
                     StepAnswer::Refused(r) => {
                         return StepAnswer::Refused(r);
                     }
@@ -202,6 +140,25 @@ fn body_past(s: &[u8], w: Walk, named: bool, at: usize, left: u32) -> StepAnswer
                 left - 1,
             ),
         },
+    }
+}
+
+// A value: its head byte, then the body that it opens, or its bytes.
+pub fn value(s: &[u8], w: Walk, at: usize, left: u32) -> StepAnswer
+    ensures { λ r. ⌜ step-outcome r ≡ pastValue (now (s .entry)) w left at ⌝ }
+{
+    match value_heads::head_at(s, w.item, at) {
+        HeadByteAnswer::Refused(r) => StepAnswer::Refused(r),
+        HeadByteAnswer::Got(head) => {
+            let code = head % 32;
+            if code == 0x1c {
+                return body_past(s, w, false, at + 1, left);
+            }
+            if code == 0x1d {
+                return body_past(s, w, true, at + 1, left);
+            }
+            plain_past(s, w, at + 1, head)
+        }
     }
 }
 

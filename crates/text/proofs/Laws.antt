@@ -1,6 +1,5 @@
 -- What the functions' proofs cite: the loop of `count_at`, the stages of `string_at`, and where a text that was read lies.
 -- Assumes nothing.
-use Prim.{tt}
 use Prim.Native.Nat.{ℕ, zero, suc, _+_, _-_, _<_, _≤_}
 use mathlib.Core.Path.{_≡_, refl, ap, sym, subst, _∙_}
 use mathlib.Core.Bool.{Bool, true, false, _||_}
@@ -9,7 +8,6 @@ use lib.ListN.{length, getD, length-append}
 use lib.Dec.{eqb}
 use borrow.Author.Needs.{needs}
 use borrow.Author.Tests.{lt-ltb, le-ltb}
-use native.Mathlib.Numerals.{add-one}
 use native.Mathlib.Omega.{arith}
 use mir.Syntax.{w8, w32}
 use mir.Val.{Fits}
@@ -27,7 +25,7 @@ use Rattle.leb128.specs.Leb.{ulebAt}
 use Rattle.leb128.proofs.Exactly.{uleb-exact}
 use Rattle.leb128.proofs.Laws.{on-leb, uleb-span}
 use Rattle.text.specs.Text.{wideAt, formAt, unitsAt, Text, stringAt, Extent, extent, extentAt, counted, countAt}
-use Rattle.text.specs.Singles.{Singles, FewSingles}
+use Rattle.text.specs.Singles.{Singles, none-yet, one-more, FewSingles}
 use Rattle.text.specs.Answers.{wide-outcome, count-outcome, text-outcome}
 use Rattle.text.specs.declared.WideAnswer.{WideAnswer}
 use Rattle.text.specs.declared.WideAnswer.the-variants as W
@@ -120,33 +118,35 @@ module _ {s : List ℕ} {item start p count : ℕ} (h : Head s item start p coun
       go (suc n) e = sym (bind-refused counted (sym (ending-stop e (omega arith) (fails _ refl (le-ltb p (length s) i)))))
 
 -- ---- forms of one byte, eight at most in one turn
-module _ (s : List ℕ) (p : ℕ) where
-  pub singles-none : FewSingles s p 0
-  unfolding Singles
-  singles-none = record { few = omega arith; singles = tt }
+module _ {s : List ℕ} {p : ℕ} where
+  pub singles-none : p < length s → FewSingles s p 0
+  singles-none i = record { few = omega arith; inside = omega arith; ahead = λ l. omega arith; singles = none-yet }
 
-  pub singles-more : {n : ℕ} → p + 8 ≤ length s → n < 8 → FewSingles s p n → getD s (p + n) 0 < 0x80 → 0 < getD s (p + n) 0 → FewSingles s p (n + 1)
-  unfolding Singles
-  singles-more {n} i l r q b = record { few = omega arith; singles = subst (Singles s p) (sym (add-one n)) (r .singles, (omega arith, (q, b))) }
+  pub singles-more : {n : ℕ} → 8 ≤ length s - p → n < 8 → FewSingles s p n → getD s (p + n) 0 < 0x80 → 0 < getD s (p + n) 0 → FewSingles s p (n + 1)
+  singles-more i l h low high = record { few = omega arith; inside = omega arith; ahead = λ m. omega arith; singles = one-more (h .singles) high low }
 
-head-singles : {s : List ℕ} {item start p count : ℕ} (n : ℕ) → Head s item start p count → Singles s p n → Head s item start (p + n) (count + n)
-unfolding Singles
-head-singles {s} {item} {start} {p} {count} zero h r =
-    let a : p ≡ p + 0 = omega arith in
-    let b : count ≡ count + 0 = omega arith in
-    subst (λ (x : ℕ). Head s item start x (count + 0)) a (subst (Head s item start p) b h)
-head-singles {s} {item} {start} {p} {count} (suc n) h r =
-    let a : p + n + 1 ≡ p + suc n = omega arith in
-    let b : count + n + 1 ≡ count + suc n = omega arith in
-    subst (λ (x : ℕ). Head s item start x (count + suc n)) a
-    (subst (Head s item start (p + n + 1)) b (head-one (head-singles n h (r .0)) (r .1 .0) (r .1 .1 .0) (r .1 .1 .1)))
+  -- what the loop asks of them
+  pub few-inside : {n : ℕ} → FewSingles s p n → n < 8 → p + n < length s
+  few-inside h l = h .ahead l
 
-module _ {s : List ℕ} {item start p count n : ℕ} (h : Head s item start p count) (r : FewSingles s p n) where
-  pub head-few : Head s item start (p + n) (count + n)
-  head-few = head-singles n h (r .singles)
+-- a place and a count that are written in another way
+same-head : {s : List ℕ} {item start p q count many : ℕ} → p ≡ q → count ≡ many → Head s item start p count → Head s item start q many
+same-head {s} {item} {start} {p} {q} {count} {many} e g h = subst (λ (x : ℕ). Head s item start x many) e (subst (λ (x : ℕ). Head s item start p x) g h)
 
-  pub few-done : 8 ≤ length s - p → n < 8 → getD s (p + n) 0 ≤ 0 → answer (record { item = count + n; next = p + n }) ≡ countAt s item start
-  few-done i l z = head-done head-few (omega arith) (omega arith) z
+past-singles : {s : List ℕ} {item start p count n : ℕ} → Head s item start p count → Singles s p n → p + n ≤ length s → Head s item start (p + n) (count + n)
+past-singles h none-yet i = same-head (omega arith) (omega arith) h
+past-singles h (one-more r high low) i = same-head (omega arith) (omega arith) (head-one (past-singles h r (omega arith)) (omega arith) low high)
+
+pub head-few : {s : List ℕ} {item start p count n : ℕ} → Head s item start p count → FewSingles s p n → Head s item start (p + n) (count + n)
+head-few h r = past-singles h (r .singles) (r .inside)
+
+-- the form behind them
+module _ {s : List ℕ} {item start p count n : ℕ} (h : Head s item start p count) (r : FewSingles s p n) (l : n < 8) {x : WideAnswer} (q : 0x80 ≤ getD s (p + n) 0) (e : wide-outcome x ≡ wideAt s item (p + n)) where
+  pub few-stop : {z : Refusal} → x ≡ W.Refused z → refused z ≡ countAt s item start
+  few-stop t = head-stop (head-few h r) (r .ahead l) q e t
+
+  pub few-less : {u next : ℕ} → x ≡ W.Got u next → length s - next < length s - p
+  few-less t = let z = head-less (head-few h r) (r .ahead l) q e t in omega arith
 
 -- ---- the stages of `string_at`
 unfoldable pub stagedAt : List ℕ → ℕ → Outcome Extent
@@ -240,7 +240,7 @@ pub ruleset form-laws = (either-first, either-second, neither, tests, needs)
 
 pub ruleset singles-laws = (singles-none, singles-more, needs)
 
-pub ruleset count-laws = (head-few, few-done, head-first, head-one, head-wide, head-less, head-stop, head-done, head-end, needs)
+pub ruleset count-laws = (head-few, few-inside, few-stop, few-less, head-first, head-one, head-wide, head-done, head-end, needs)
 
 pub ruleset string-laws = (by-stages, count-after, on-leb, on-count, calls, tests, needs)
 

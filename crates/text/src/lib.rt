@@ -117,11 +117,15 @@ fn wide_at(s: &[u8], item: usize, p: usize) -> WideAnswer
     })
 }
 
-// How many of the eight bytes from a place on are forms of one byte, up to the first that is none. The loop has a fixed length, which the compiler unrolls.
+// How many of the eight bytes from a place on are forms of one byte, up to the first that is none; 0 where the slice has no eight bytes more. The loop has a fixed
+// length, which the compiler unrolls.
 fn singles_at(s: &[u8], p: usize) -> usize
-    requires { ⌜ p + 8 ≤ length (now s) ⌝ }
+    requires { ⌜ p < length (now s) ⌝ }
     ensures { λ r. ⌜ FewSingles (now (s .entry)) p r ⌝ }
 {
+    if s.len() - p < 8 {
+        return 0;
+    }
     let mut n: usize = 0;
     while n < 8 {
         if s[p + n] < 0x80 {
@@ -136,33 +140,18 @@ fn singles_at(s: &[u8], p: usize) -> usize
     n
 }
 
-// The units from `start` up to the zero byte, counted. Most forms have one byte: they are gone over by eight, and behind them a zero byte ends the text at once.
+// The units from `start` up to the zero byte, counted: forms of one byte by eight, and then the form behind them.
 fn count_at(s: &[u8], item: usize, start: usize) -> UnitCountAnswer
     ensures { λ r. ⌜ count-outcome r ≡ countAt (now (s .entry)) item start ⌝ }
 {
     let mut p = start;
     let mut units: usize = 0;
     while p < s.len() {
-        if 8 <= s.len() - p {
-            let n = singles_at(s, p);
-            if 8 <= n {
-                p += n;
-                units += n;
-                continue;
-            }
-            let q = p + n;
-            if 0 < s[q] {
-                if 0 < n {
-                    p = q;
-                    units += n;
-                    continue;
-                }
-            } else {
-                return UnitCountAnswer::Got {
-                    units: units + n,
-                    zero: q,
-                };
-            }
+        let n = singles_at(s, p);
+        p += n;
+        units += n;
+        if 8 <= n {
+            continue;
         }
         if s[p] < 0x80 {
             if 0 < s[p] {

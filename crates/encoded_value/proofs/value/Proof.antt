@@ -1,8 +1,9 @@
-use Rattle.encoded_value.proofs.Cycle.{bodyless-laws as laws}
-use Rattle.encoded_value.proofs.bodyless_at.Statement.{statement}
-use Rattle.encoded_value.proofs.bodyless_at.Tie as tie
-use Rattle.encoded_value.proofs.bodyless_at.Reads as reads
-use Rattle.encoded_value.proofs.bodyless_at.Lts as lts
+use Rattle.encoded_value.proofs.Cycle.{over-laws as laws}
+use Rattle.encoded_value.proofs.value.Statement.{statement}
+use Rattle.encoded_value.proofs.value.Tie as tie
+use Rattle.encoded_value.proofs.value.Reads as reads
+use Rattle.encoded_value.proofs.value.Lts as lts
+use Rattle.encoded_value.proofs.body_past.Reads as body-past-reads
 use Rattle.encoded_value.proofs.plain_past.Reads as plain-past-reads
 use Rattle.value_heads.proofs.head_at.Reads as head-at-reads
 
@@ -15,8 +16,20 @@ enum-known-r c = search laws
 enum-known-head : tie.Need-enum-known-head
 enum-known-head c = search laws
 
+add-body-past : tie.Need-add-body-past
+add-body-past c = search laws
+
+body-past-requires : tie.Need-body-past-requires
+body-past-requires c κs = search laws
+
 returns : tie.Need-returns
 returns c = search laws
+
+add-body-past-2 : tie.Need-add-body-past-2
+add-body-past-2 c = search laws
+
+body-past-requires-2 : tie.Need-body-past-requires-2
+body-past-requires-2 c κs = search laws
 
 returns-2 : tie.Need-returns-2
 returns-2 c = search laws
@@ -27,34 +40,26 @@ add-plain-past c = search laws
 plain-past-requires : tie.Need-plain-past-requires
 plain-past-requires c κs = search laws
 
-enum-known-r-2 : tie.Need-enum-known-r-2
-enum-known-r-2 c = search laws
-
-enum-known-q : tie.Need-enum-known-q
-enum-known-q c = search laws
-
 returns-3 : tie.Need-returns-3
 returns-3 c = search laws
 
 returns-4 : tie.Need-returns-4
 returns-4 c = search laws
 
-returns-5 : tie.Need-returns-5
-returns-5 c = search laws
-
-pub bodyless-at-spec : {M : Type 1} → statement M
-bodyless-at-spec =
+pub value-spec : {M : Type 1} → statement M
+value-spec =
     tie.close
     (tie.spec
     head-at-requires
     enum-known-r
     enum-known-head
+    add-body-past
+    body-past-requires
     returns
+    add-body-past-2
+    body-past-requires-2
     returns-2
     add-plain-past
     plain-past-requires
-    enum-known-r-2
-    enum-known-q
     returns-3
-    returns-4
-    returns-5)
+    returns-4)
