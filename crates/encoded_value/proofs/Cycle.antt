@@ -11,7 +11,7 @@ use Rattle.refusal.specs.Refusals.{nested-too-deep}
 use Rattle.refusal.specs.declared.Refusal.{Refusal}
 use Rattle.refusal.specs.Outcome.{Outcome, answer, refused, _>>=_}
 use Rattle.refusal.specs.Rows.{Found, past, repeat, collect}
-use Rattle.refusal.proofs.Laws.{bind-answer, bind-refused, Walk as Loop, walk-next, walk-stop, walk-done}
+use Rattle.refusal.proofs.Laws.{bind-answer, bind-refused, picks, leaves, Walk as Loop, walk-next, walk-stop, walk-done}
 use Rattle.refusal.proofs.Rows.{bind-assoc, past-collect}
 use Rattle.leb128.specs.Leb.{ulebAt}
 use Rattle.leb128.specs.Answers.{leb-outcome}
@@ -28,7 +28,7 @@ use Rattle.value_heads.specs.declared.HeadByteAnswer.the-variants as H
 use Rattle.encoded_value.specs.Tree.{Tree, Named, Annotation}
 use Rattle.encoded_value.specs.Readings.{plainAt, startAt, arrayWith, namedWith, annotationWith, as-array, as-annotation, kindWith, valueWith, valueAt, arrayAt, annotationAt, pastValue, pastArray, pastAnnotation, pastNamed, pastPlain}
 use Rattle.encoded_value.specs.Answers.{step-outcome}
-use Rattle.encoded_value.specs.Stages.{indexPast, pastInside, pastInner, pastValues, pastBody}
+use Rattle.encoded_value.specs.Stages.{indexPast, pastOpened, pastInside, pastInner, pastValues, pastBody}
 use Rattle.encoded_value.proofs.Leaves.{past-made}
 
 module _ (s : List ℕ) (w : Walk) where
@@ -77,15 +77,29 @@ module _ (s : List ℕ) (w : Walk) where
     pub value-inside : {h : ℕ} {y : Outcome ℕ} → x ≡ H.Got h → y ≡ pastInside s w left h (p + 1) → y ≡ pastValue s w left p
     value-inside t k = k ∙ sym (ap (λ (o : Outcome (Found Tree ℕ)). o >>= past) (value-kind t))
 
+  -- ---- the body that a code opens
+  module _ (left code p : ℕ) {y : Outcome ℕ} where
+    pub opened-array : code ≡ 0x1c → y ≡ pastArray s w left p → y ≡ pastOpened s w left code p
+    unfolding pastOpened
+    opened-array c k = picks _ (eq-eqb code 0x1c c) k
+
+    pub opened-annotation : (code ≡ 0x1c → ⊥) → y ≡ pastAnnotation s w left p → y ≡ pastOpened s w left code p
+    unfolding pastOpened
+    opened-annotation n k = leaves _ (ne-eqb code 0x1c n) k
+
   -- ---- behind a head byte
   module _ (left h p : ℕ) {y : Outcome ℕ} where
-    pub inside-array : h % 32 ≡ 0x1c → y ≡ pastBody s w false left p → y ≡ pastInside s w left h p
-    unfolding pastBody
-    inside-array c k = k ∙ past-made _ (arrayAt s w left p) ∙ sym (ap (λ (o : Outcome (Found Tree ℕ)). o >>= past) (kind-array (arrayAt s w left) (annotationAt s w left) h p c))
+    pub inside-array : h % 32 ≡ 0x1c → y ≡ pastOpened s w left (h % 32) p → y ≡ pastInside s w left h p
+    unfolding pastOpened
+    inside-array c k =
+        k ∙ sym (picks _ (eq-eqb (h % 32) 0x1c c) refl) ∙ past-made _ (arrayAt s w left p)
+        ∙ sym (ap (λ (o : Outcome (Found Tree ℕ)). o >>= past) (kind-array (arrayAt s w left) (annotationAt s w left) h p c))
 
-    pub inside-annotation : (h % 32 ≡ 0x1c → ⊥) → h % 32 ≡ 0x1d → y ≡ pastBody s w true left p → y ≡ pastInside s w left h p
-    unfolding pastBody
-    inside-annotation n c k = k ∙ past-made _ (annotationAt s w left p) ∙ sym (ap (λ (o : Outcome (Found Tree ℕ)). o >>= past) (kind-annotation (arrayAt s w left) (annotationAt s w left) h p n c))
+    pub inside-annotation : (h % 32 ≡ 0x1c → ⊥) → h % 32 ≡ 0x1d → y ≡ pastOpened s w left (h % 32) p → y ≡ pastInside s w left h p
+    unfolding pastOpened
+    inside-annotation n c k =
+        k ∙ sym (leaves _ (ne-eqb (h % 32) 0x1c n) refl) ∙ past-made _ (annotationAt s w left p)
+        ∙ sym (ap (λ (o : Outcome (Found Tree ℕ)). o >>= past) (kind-annotation (arrayAt s w left) (annotationAt s w left) h p n c))
 
     pub inside-plain : (h % 32 ≡ 0x1c → ⊥) → (h % 32 ≡ 0x1d → ⊥) → y ≡ pastPlain s w h p → y ≡ pastInside s w left h p
     inside-plain n m k = k ∙ sym (ap (λ (o : Outcome (Found Tree ℕ)). o >>= past) (kind-plain (arrayAt s w left) (annotationAt s w left) h p n m))
@@ -205,7 +219,7 @@ module _ {s : List ℕ} {w : Walk} {named : Bool} {left from count more p : ℕ}
         pub inside-stop : {r : Refusal} → z ≡ S.Refused r → refused r ≡ pastValues s w named left count from
         inside-stop v = turn-off (value-inside s w left at g u (sym (ap step-outcome v) ∙ k))
 
-pub ruleset cycle-laws = (after-head, inside-array, inside-annotation, inside-plain, body-deep, front-refused, size-refused, size-got, values-first, values-done, name-stop, head-stop, inside-turn, inside-stop, needs)
+pub ruleset cycle-laws = (after-head, array-by, annotation-by, opened-array, opened-annotation, inside-array, inside-annotation, inside-plain, body-deep, front-refused, size-refused, size-got, values-first, values-done, name-stop, head-stop, inside-turn, inside-stop, needs)
 
--- what stands over the cycle: a value by itself, and the two bodies by their names
-pub ruleset over-laws = (after-head, value-refused, value-inside, inside-array, inside-annotation, inside-plain, array-by, annotation-by, needs)
+-- what a value by itself is searched with
+pub ruleset value-laws = (after-head, value-refused, value-inside, inside-array, inside-annotation, inside-plain, needs)

@@ -1,12 +1,17 @@
 -- Stages of the code: what stands behind a head byte, and one going over for both bodies.
 use Prim.Native.Nat.{ℕ}
-use mathlib.Core.Bool.{Bool, true, false}
+use mathlib.Core.Bool.{Bool, true, false, cond}
 use mathlib.Core.List.{List}
+use lib.Dec.{eqb}
 use Rattle.refusal.specs.Outcome.{Outcome, answer, _>>=_}
 use Rattle.refusal.specs.Rows.{past, repeat}
 use Rattle.value_heads.specs.declared.Walk.{Walk}
 use Rattle.value_heads.specs.Readings.{indexAt}
 use Rattle.encoded_value.specs.Readings.{kindWith, arrayAt, annotationAt, pastValue, pastArray, pastAnnotation}
+
+-- the body that a code opens
+unfoldable pub pastOpened : List ℕ → Walk → ℕ → ℕ → ℕ → Outcome ℕ
+pastOpened s w left code p = cond (eqb code 0x1c) (pastArray s w left p) (pastAnnotation s w left p)
 
 -- what stands behind a head byte h
 abbrev pub pastInside : List ℕ → Walk → ℕ → ℕ → ℕ → Outcome ℕ

@@ -10,7 +10,7 @@ ghost use Rattle.value_heads.specs.Kinds.{bytes-of};
 ghost use Rattle.encoded_value.specs.Readings.{startAt, pastNumber, pastPlain, pastValue, pastArray, pastAnnotation};
 ghost use Rattle.encoded_value.specs.Depth.{deepest};
 ghost use Rattle.encoded_value.specs.Answers.{step-outcome};
-ghost use Rattle.encoded_value.specs.Stages.{indexPast, pastInside, pastValues, pastBody};
+ghost use Rattle.encoded_value.specs.Stages.{indexPast, pastOpened, pastInside, pastValues, pastBody};
 ghost use Rattle.leb128.specs.Answers.{leb-outcome};
 
 // How deep bodies may lie one inside the other: `deepest` in the definitions.
@@ -73,16 +73,26 @@ fn index_past(s: &[u8], item: usize, named: bool, count: u32, at: usize) -> Step
     StepAnswer::Next(at)
 }
 
+// The body that a code opens: 0x1c an array, 0x1d an annotation. It has two callers and so is not compiled in: the loop over values stays small.
+fn opened_past(s: &[u8], w: Walk, code: u8, at: usize, left: u32) -> StepAnswer
+    ensures { λ r. ⌜ step-outcome r ≡ pastOpened (now (s .entry)) w left code at ⌝ }
+{
+    if code == 0x1c {
+        return array_body(s, w, at, left);
+    }
+    annotation_body(s, w, at, left)
+}
+
 // What stands behind a head byte: the body that it opens, or its bytes. The loop over values is the one caller, and has this compiled in: most values open no body.
 fn inside_past(s: &[u8], w: Walk, head: u8, at: usize, left: u32) -> StepAnswer
     ensures { λ r. ⌜ step-outcome r ≡ pastInside (now (s .entry)) w left head at ⌝ }
 {
     let code = head % 32;
     if code == 0x1c {
-        return body_past(s, w, false, at, left);
+        return opened_past(s, w, code, at, left);
     }
     if code == 0x1d {
-        return body_past(s, w, true, at, left);
+        return opened_past(s, w, code, at, left);
     }
     plain_past(s, w, at, head)
 }
@@ -152,10 +162,10 @@ pub fn value(s: &[u8], w: Walk, at: usize, left: u32) -> StepAnswer
         HeadByteAnswer::Got(head) => {
             let code = head % 32;
             if code == 0x1c {
-                return body_past(s, w, false, at + 1, left);
+                return opened_past(s, w, code, at + 1, left);
             }
             if code == 0x1d {
-                return body_past(s, w, true, at + 1, left);
+                return opened_past(s, w, code, at + 1, left);
             }
             plain_past(s, w, at + 1, head)
         }

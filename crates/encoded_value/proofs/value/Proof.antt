@@ -1,9 +1,9 @@
-use Rattle.encoded_value.proofs.Cycle.{over-laws as laws}
+use Rattle.encoded_value.proofs.Cycle.{value-laws as laws}
 use Rattle.encoded_value.proofs.value.Statement.{statement}
 use Rattle.encoded_value.proofs.value.Tie as tie
 use Rattle.encoded_value.proofs.value.Reads as reads
 use Rattle.encoded_value.proofs.value.Lts as lts
-use Rattle.encoded_value.proofs.body_past.Reads as body-past-reads
+use Rattle.encoded_value.proofs.opened_past.Reads as opened-past-reads
 use Rattle.encoded_value.proofs.plain_past.Reads as plain-past-reads
 use Rattle.value_heads.proofs.head_at.Reads as head-at-reads
 
@@ -16,20 +16,20 @@ enum-known-r c = search laws
 enum-known-head : tie.Need-enum-known-head
 enum-known-head c = search laws
 
-add-body-past : tie.Need-add-body-past
-add-body-past c = search laws
+add-opened-past : tie.Need-add-opened-past
+add-opened-past c = search laws
 
-body-past-requires : tie.Need-body-past-requires
-body-past-requires c κs = search laws
+opened-past-requires : tie.Need-opened-past-requires
+opened-past-requires c κs = search laws
 
 returns : tie.Need-returns
 returns c = search laws
 
-add-body-past-2 : tie.Need-add-body-past-2
-add-body-past-2 c = search laws
+add-opened-past-2 : tie.Need-add-opened-past-2
+add-opened-past-2 c = search laws
 
-body-past-requires-2 : tie.Need-body-past-requires-2
-body-past-requires-2 c κs = search laws
+opened-past-requires-2 : tie.Need-opened-past-requires-2
+opened-past-requires-2 c κs = search laws
 
 returns-2 : tie.Need-returns-2
 returns-2 c = search laws
@@ -53,11 +53,11 @@ value-spec =
     head-at-requires
     enum-known-r
     enum-known-head
-    add-body-past
-    body-past-requires
+    add-opened-past
+    opened-past-requires
     returns
-    add-body-past-2
-    body-past-requires-2
+    add-opened-past-2
+    opened-past-requires-2
     returns-2
     add-plain-past
     plain-past-requires
