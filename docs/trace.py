@@ -12,7 +12,8 @@ It fails, and names each of these:
 - a name that is not there. In the columns 'definition' and 'contract or theorem' a crate's name, or a crate's name and a file such as specs/Rules, stands in front of the first of its names: leb128 specs/Leb `ulebAt`, `slebAt`. Each is a declaration of that crate (of
   that file): of specs/, of proofs/, or a function, type or constant of src/. `T .x` is the field x of T, `f 5` is f, and `crate::f` is a function. In the column 'test' a crate stands in front of its labels, which are those of its stdout, or files of its data/. In the
   last column a crate stands in front of its edits, which are files of must-fail/ or wrong/. Paths such as docs/LOOSE.md are looked for too;
-- a row that says nothing but its sentence."""
+- a row that says nothing but its sentence, or that has more or fewer columns than its table;
+- in the table 'function of `dex`', a name that is no public function of `dex` or that promises does not declare, and a public function of `dex` that no row has."""
 import fnmatch
 import glob
 import os
@@ -63,11 +64,16 @@ def quoted(quote, sentence):
 
 
 def rows(text):
-    """The cells of each row of a table that has the five columns, with the row's line number."""
+    """The cells of each row of a table, with the row's line number and the cells of the table's first row."""
+    head = None
     for number, line in enumerate(text.split('\n'), 1):
         cells = [cell.strip() for cell in line.strip().split('|')[1:-1]]
-        if len(cells) == 5 and cells[0] != 'sentence' and not re.fullmatch(r'-+', cells[0]):
-            yield number, cells
+        if not line.startswith('|'):
+            head = None
+        elif head is None:
+            head = cells
+        elif not re.fullmatch(r'-+', cells[0]):
+            yield number, head, cells
 
 
 def declared(crate, cache={}):
@@ -151,6 +157,17 @@ def wrong_names(cells):
                     yield f'no crate {word}'
 
 
+def wrong_readers(cells):
+    """What is wrong with a row of the table of `dex`'s functions: those functions, and clauses of promises, as `Record .field` or `.field`."""
+    for name in re.findall(r'\w+', cells[0]):
+        if not public('dex', name):
+            yield f'no function dex::{name}'
+    for name in re.findall(r'`([^`]+)`', ' '.join(cells[1:])):
+        for one in name.split():
+            if one.lstrip('.') not in declared('promises'):
+                yield f'promises declares no `{one}`'
+
+
 def main():
     words = [a for a in sys.argv[1:] if not a.startswith('-')]
     if '-h' in sys.argv or '--help' in sys.argv:
@@ -161,7 +178,16 @@ def main():
         sys.exit(print('\n'.join(told)))
     faults = []
     quotes = {n: 0 for n in range(len(told))}
-    trace = list(rows(open('docs/TRACE.md').read()))
+    trace, readers = [], []
+    for number, head, cells in rows(open('docs/TRACE.md').read()):
+        if len(cells) != len(head):
+            faults.append(f'docs/TRACE.md:{number}: {len(cells)} columns and not {len(head)}')
+        elif len(head) == 5:
+            trace.append((number, cells))
+        elif head[0] == 'function of `dex`':
+            faults += [f'docs/TRACE.md:{number}: {said}' for said in wrong_readers(cells)]
+            readers += re.findall(r'\w+', cells[0])
+    faults += [f'no row has dex::{name}' for name in re.findall(r'^pub use \w+::([a-z]\w*);$', open('crates/dex/src/lib.rt').read(), re.M) if name not in readers]
     for number, cells in trace:
         faults += [f'docs/TRACE.md:{number}: {said}' for said in wrong_names(cells)]
         if not any(cells[1:]):

@@ -69,7 +69,7 @@ extern "C" {
 /* The longest file that is read, in bytes. */
 #define DRALOVIKA_LONGEST 67108864
 
-/* None inside an answer: no number of the format is as large. */
+/* None inside an answer, in the words that say so: no number of a table and no address is as large. */
 #define DRALOVIKA_NOTHING UINT64_MAX
 
 /* ---- What every answer has */

@@ -78,7 +78,7 @@ pub fn header_row(a: HeaderAnswer) -> [u64; 20]
 {
     match a {
         HeaderAnswer::Refused(r) => words::refused(r),
-        HeaderAnswer::Got(h) => whole_header(h),
+        HeaderAnswer::Got(header) => whole_header(header),
     }
 }
 

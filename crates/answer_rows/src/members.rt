@@ -29,7 +29,7 @@ fn name_word(n: Name) -> u64
     ensures { λ w. ⌜ w ≡ option-word (name-meant n) ⌝ }
 {
     match n {
-        Name::Given(s) => s as u64,
+        Name::Given(string) => string as u64,
         Name::Absent => 18446744073709551615,
     }
 }

@@ -11,22 +11,22 @@ use Rattle.asking.specs.declared.Question.{Question}
 
 -- "low first, as all numbers here"
 unfoldable pub numberAt : ℕ → List ℕ → ℕ → ℕ
-numberAt width s at = cond (eqb width 1) (getD s at 0) (cond (eqb width 2) (u16At Little s at) (u32At Little s at))
+numberAt width bytes at = cond (eqb width 1) (getD bytes at 0) (cond (eqb width 2) (u16At Little bytes at) (u32At Little bytes at))
 
 -- the question whose numbers have a width
 unfoldable pub questionBy : ℕ → List ℕ → Question
-questionBy width s = record {
-  reader = getD s 0 0;
-  mask = u16At Little s 1 + 65536 * getD s 3 0;
-  a = numberAt width s 6;
-  b = numberAt width s (6 + width);
-  c = numberAt width s (6 + 2 * width);
-  d = numberAt width s (6 + 3 * width);
-  e = numberAt width s (6 + 4 * width);
+questionBy width bytes = record {
+  reader = getD bytes 0 0;
+  mask = u16At Little bytes 1 + 65536 * getD bytes 3 0;
+  a = numberAt width bytes 6;
+  b = numberAt width bytes (6 + width);
+  c = numberAt width bytes (6 + 2 * width);
+  d = numberAt width bytes (6 + 3 * width);
+  e = numberAt width bytes (6 + 4 * width);
   size = 6 + 5 * width;
-  more = getD s 5 0;
+  more = getD bytes 5 0;
 }
 
 -- the question that these bytes begin with
 unfoldable pub questionOf : List ℕ → Question
-questionOf s = questionBy (getD s 4 0) s
+questionOf bytes = questionBy (getD bytes 4 0) bytes

@@ -73,18 +73,18 @@ fn write_number(n: u64) {
     io::write_all(1, &text[..end]);
 }
 
-pub fn write_bytes(s: &[u8]) {
+pub fn write_bytes(bytes: &[u8]) {
     let mut i: usize = 0;
-    while i < s.len() {
-        write_number(s[i] as u64);
+    while i < bytes.len() {
+        write_number(bytes[i] as u64);
         i += 1;
     }
 }
 
-pub fn write_units(s: &[u16]) {
+pub fn write_units(units: &[u16]) {
     let mut i: usize = 0;
-    while i < s.len() {
-        write_number(s[i] as u64);
+    while i < units.len() {
+        write_number(units[i] as u64);
         i += 1;
     }
 }

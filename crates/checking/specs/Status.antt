@@ -7,9 +7,9 @@ use Rattle.named_report.specs.Output.{status}
 
 -- the exit status as an ASCII digit: 2 stands for what was not read and for what was not written
 abbrev pub digit : ℕ → ℕ
-digit s = 48 + min s 2
+digit n = 48 + min n 2
 
 -- what an input comes to whose bytes these are: what its verdict says, unless that could not be written
-pub data Comes (f : List ℕ) (s : ℕ) : Type 0 where
-  said : s ≡ status (inputAt f) → Comes f s
-  unsaid : 2 ≤ s → Comes f s
+pub data Comes (f : List ℕ) (n : ℕ) : Type 0 where
+  said : n ≡ status (inputAt f) → Comes f n
+  unsaid : 2 ≤ n → Comes f n

@@ -26,10 +26,10 @@ fn worse(a: u8, b: u8) -> u8
 }
 
 // The exit status, as a digit.
-fn digit_of(s: u8) -> u8
-    ensures { λ r. ⌜ r ≡ digit s ⌝ }
+fn digit_of(status: u8) -> u8
+    ensures { λ r. ⌜ r ≡ digit status ⌝ }
 {
-    if s < 2 { 48 + s } else { 50 }
+    if status < 2 { 48 + status } else { 50 }
 }
 
 // A line on standard error, of an input that has no report: what it is, and why.
@@ -131,9 +131,9 @@ fn check_file(name: &[u8]) -> u8 {
     if fd < 0 {
         return fail(name);
     }
-    let s = check_input(fd, name, name);
+    let status = check_input(fd, name, name);
     libc::close(fd);
-    s
+    status
 }
 
 // Checks the file that argument i names.
@@ -164,17 +164,17 @@ fn check_arguments(first: usize, count: usize) -> u8 {
 }
 
 // Has all that was written arrived? Some file systems say so at the close alone.
-fn close_output(s: u8) -> u8
-    ensures { λ r. ⌜ s ≤ r ⌝ }
+fn close_output(status: u8) -> u8
+    ensures { λ r. ⌜ status ≤ r ⌝ }
 {
-    if s == UNWRITTEN {
-        return s;
+    if status == UNWRITTEN {
+        return status;
     }
     if libc::close(libc::STDOUT_FILENO) < 0 {
         os::fail(b"standard output");
-        return worse(s, UNWRITTEN);
+        return worse(status, UNWRITTEN);
     }
-    s
+    status
 }
 
 // Is the exit status asked for? An empty first argument does so: it names no file.
@@ -188,8 +188,8 @@ fn is_asked() -> bool {
 }
 
 // Writes the exit status to its descriptor.
-fn tell(s: u8) {
-    if !io::write_all(STATUS_FILENO, &[digit_of(s)]) {
+fn tell(status: u8) {
+    if !io::write_all(STATUS_FILENO, &[digit_of(status)]) {
         os::fail(b"exit status");
     }
 }

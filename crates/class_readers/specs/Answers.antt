@@ -12,7 +12,7 @@ use Rattle.class_readers.specs.declared.MaybeCountAnswer as N
 
 abbrev pub spot-outcome : S.SpotAnswer → Outcome (Option Spot)
 spot-outcome S.the-variants.Absent = answer none
-spot-outcome (S.the-variants.Got s) = answer (some s)
+spot-outcome (S.the-variants.Got spot) = answer (some spot)
 spot-outcome (S.the-variants.Refused r) = refused r
 
 abbrev pub maybe-data : D.MaybeDataAnswer → Outcome (Option Counts)

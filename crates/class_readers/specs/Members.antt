@@ -14,8 +14,8 @@ use Rattle.class_readers.specs.Spots.{onward, dataSpot}
 
 -- the four counts of class data, or none
 unfoldable pub countsUnder : List ℕ → Spot → Outcome (Option Counts)
-countsUnder f s = do
-  d ← extentAt (up-to-end f (s .header)) (plain-frame (s .header)) (s .place)
+countsUnder f spot = do
+  d ← extentAt (up-to-end f (spot .header)) (plain-frame (spot .header)) (spot .place)
   answer (some (d .item))
 
 unfoldable pub classData : List ℕ → ℕ → Outcome (Option Counts)
@@ -23,8 +23,8 @@ classData f c = dataSpot f c >>= onward (countsUnder f)
 
 -- member k of a list: of a class without class data none, and not 7
 unfoldable pub memberUnder : List ℕ → ℕ → ℕ → Spot → Outcome (Option Member)
-memberUnder f list k s = do
-  m ← memberOf (up-to-end f (s .header)) (plain-frame (s .header)) (s .place) list k
+memberUnder f list k spot = do
+  m ← memberOf (up-to-end f (spot .header)) (plain-frame (spot .header)) (spot .place) list k
   answer (some m)
 
 unfoldable pub memberNumber : List ℕ → ℕ → ℕ → ℕ → Outcome (Option Member)

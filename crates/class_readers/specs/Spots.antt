@@ -33,18 +33,18 @@ dataSpot f c = headerAt f >>= dataIn f c
 
 -- code, by list and member number: the class data's own rules first, then 7. The code of a field, lists 0 and 1, is not there
 unfoldable pub methodUnder : List ℕ → ℕ → ℕ → Spot → Outcome (Option Spot)
-methodUnder f list k s = do
-  m ← memberOf (up-to-end f (s .header)) (plain-frame (s .header)) (s .place) list k
-  given (leb 2 list) not-there (spotAt (s .header) (m .code))
+methodUnder f list k spot = do
+  m ← memberOf (up-to-end f (spot .header)) (plain-frame (spot .header)) (spot .place) list k
+  given (leb 2 list) not-there (spotAt (spot .header) (m .code))
 
 unfoldable pub methodSpot : List ℕ → ℕ → ℕ → ℕ → Outcome (Option Spot)
 methodSpot f c list k = dataSpot f c >>= onward (methodUnder f list k)
 
 -- debug information: the code item's own rules first
 unfoldable pub debugUnder : List ℕ → Spot → Outcome (Option Spot)
-debugUnder f s = do
-  o ← outlineAt (up-to-end f (s .header)) (plain-frame (s .header)) (s .place)
-  spotAt (s .header) (o .head .debug)
+debugUnder f spot = do
+  o ← outlineAt (up-to-end f (spot .header)) (plain-frame (spot .header)) (spot .place)
+  spotAt (spot .header) (o .head .debug)
 
 unfoldable pub debugSpot : List ℕ → ℕ → ℕ → ℕ → Outcome (Option Spot)
 debugSpot f c list k = methodSpot f c list k >>= onward (debugUnder f)

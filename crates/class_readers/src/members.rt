@@ -12,14 +12,14 @@ ghost use lib.ListN.{length};
 ghost use Rattle.class_readers.specs.Members.{countsUnder, classData, memberUnder, memberNumber, memberFlags, memberContent};
 ghost use Rattle.class_readers.specs.Answers.{maybe-data, maybe-member, maybe-count};
 
-fn counts_under(f: &[u8], s: Spot) -> MaybeDataAnswer
-    ensures { λ r. ⌜ maybe-data r ≡ countsUnder (now (f .entry)) s ⌝ }
+fn counts_under(f: &[u8], spot: Spot) -> MaybeDataAnswer
+    ensures { λ r. ⌜ maybe-data r ≡ countsUnder (now (f .entry)) spot ⌝ }
 {
-    let h = s.header;
+    let header = spot.header;
     match class_data::class_data_at(
-        header::up_to_end(f, h),
-        header::frame_of(h, 0),
-        s.place as usize,
+        header::up_to_end(f, header),
+        header::plain_frame(header),
+        spot.place as usize,
     ) {
         DataAnswer::Refused(r) => MaybeDataAnswer::Refused(r),
         DataAnswer::Got { counts, end: _ } => MaybeDataAnswer::Got(counts),
@@ -33,18 +33,18 @@ pub fn class_data(f: &[u8], c: u32) -> MaybeDataAnswer
     match super::spots::data_spot(f, c) {
         SpotAnswer::Refused(r) => MaybeDataAnswer::Refused(r),
         SpotAnswer::Absent => MaybeDataAnswer::Absent,
-        SpotAnswer::Got(s) => counts_under(f, s),
+        SpotAnswer::Got(spot) => counts_under(f, spot),
     }
 }
 
-fn member_under(f: &[u8], s: Spot, list: u32, k: u32) -> MaybeMemberAnswer
-    ensures { λ r. ⌜ maybe-member r ≡ memberUnder (now (f .entry)) list k s ⌝ }
+fn member_under(f: &[u8], spot: Spot, list: u32, k: u32) -> MaybeMemberAnswer
+    ensures { λ r. ⌜ maybe-member r ≡ memberUnder (now (f .entry)) list k spot ⌝ }
 {
-    let h = s.header;
+    let header = spot.header;
     match class_data::member_at(
-        header::up_to_end(f, h),
-        header::frame_of(h, 0),
-        s.place as usize,
+        header::up_to_end(f, header),
+        header::plain_frame(header),
+        spot.place as usize,
         list,
         k,
     ) {
@@ -60,7 +60,7 @@ pub fn member(f: &[u8], c: u32, list: u32, k: u32) -> MaybeMemberAnswer
     match super::spots::data_spot(f, c) {
         SpotAnswer::Refused(r) => MaybeMemberAnswer::Refused(r),
         SpotAnswer::Absent => MaybeMemberAnswer::Absent,
-        SpotAnswer::Got(s) => member_under(f, s, list, k),
+        SpotAnswer::Got(spot) => member_under(f, spot, list, k),
     }
 }
 

@@ -38,26 +38,26 @@ pub fn data_spot(f: &[u8], c: u32) -> SpotAnswer
 {
     match header::header_of(f) {
         HeaderAnswer::Refused(r) => SpotAnswer::Refused(r),
-        HeaderAnswer::Got(h) => data_in(f, h, c),
+        HeaderAnswer::Got(header) => data_in(f, header, c),
     }
 }
 
 // Where the code of a member of class data lies: 7 for the member, and for a list of fields.
-fn method_under(f: &[u8], s: Spot, list: u32, k: u32) -> SpotAnswer
-    ensures { λ r. ⌜ spot-outcome r ≡ methodUnder (now (f .entry)) list k s ⌝ }
+fn method_under(f: &[u8], spot: Spot, list: u32, k: u32) -> SpotAnswer
+    ensures { λ r. ⌜ spot-outcome r ≡ methodUnder (now (f .entry)) list k spot ⌝ }
 {
-    let h = s.header;
+    let header = spot.header;
     match class_data::member_at(
-        header::up_to_end(f, h),
-        header::frame_of(h, 0),
-        s.place as usize,
+        header::up_to_end(f, header),
+        header::plain_frame(header),
+        spot.place as usize,
         list,
         k,
     ) {
         MemberAnswer::Refused(r) => SpotAnswer::Refused(r),
         MemberAnswer::Got(m) => {
             if 2 <= list {
-                return spot_of(h, m.code);
+                return spot_of(header, m.code);
             }
             SpotAnswer::Refused(refusal::not_there())
         }
@@ -71,24 +71,24 @@ pub fn method_spot(f: &[u8], c: u32, list: u32, k: u32) -> SpotAnswer
     match data_spot(f, c) {
         SpotAnswer::Refused(r) => SpotAnswer::Refused(r),
         SpotAnswer::Absent => SpotAnswer::Absent,
-        SpotAnswer::Got(s) => method_under(f, s, list, k),
+        SpotAnswer::Got(spot) => method_under(f, spot, list, k),
     }
 }
 
 // Where the debug information of a code item lies, of which the whole is read first.
-fn debug_under(f: &[u8], s: Spot) -> SpotAnswer
-    ensures { λ r. ⌜ spot-outcome r ≡ debugUnder (now (f .entry)) s ⌝ }
+fn debug_under(f: &[u8], spot: Spot) -> SpotAnswer
+    ensures { λ r. ⌜ spot-outcome r ≡ debugUnder (now (f .entry)) spot ⌝ }
 {
-    let h = s.header;
+    let header = spot.header;
     match code_item::code_at(
-        header::up_to_end(f, h),
-        header::frame_of(h, 0),
-        s.place as usize,
+        header::up_to_end(f, header),
+        header::plain_frame(header),
+        spot.place as usize,
     ) {
         CodeAnswer::Refused(r) => SpotAnswer::Refused(r),
         CodeAnswer::Got(o) => {
             let head = o.head;
-            spot_of(h, head.debug)
+            spot_of(header, head.debug)
         }
     }
 }
@@ -100,6 +100,6 @@ pub fn debug_spot(f: &[u8], c: u32, list: u32, k: u32) -> SpotAnswer
     match method_spot(f, c, list, k) {
         SpotAnswer::Refused(r) => SpotAnswer::Refused(r),
         SpotAnswer::Absent => SpotAnswer::Absent,
-        SpotAnswer::Got(s) => debug_under(f, s),
+        SpotAnswer::Got(spot) => debug_under(f, spot),
     }
 }

@@ -143,7 +143,7 @@ fn data_below(f: &[u8], header: Header, handles: u32, at: u32) -> CheckAnswer
     }
     check_data(
         header::up_to_end(f, header),
-        header::frame_of(header, 0),
+        header::plain_frame(header),
         at as usize,
     )
 }
@@ -191,7 +191,7 @@ pub fn check_class(f: &[u8], header: Header, handles: u32, n: u32) -> CheckAnswe
     ensures { λ r. ⌜ checked-outcome r ≡ classAccepted (now (f .entry)) header handles n ⌝ }
 {
     let t = header.classes;
-    match class_ids::class_at(f, header::frame_of(header, 0), header.end, t.offset, n) {
+    match class_ids::class_at(f, header::plain_frame(header), header.end, t.offset, n) {
         ClassAnswer::Refused(r) => CheckAnswer::Refused(r),
         ClassAnswer::Got(c) => below_pass(
             f,

@@ -82,7 +82,7 @@ module _ (o : Endian) (s : List ℕ) (units : ℕ) where
   -- the tries of a row of steps
   tries-read : {n : ℕ} {r u : Run} {l : List Try} → Row (TryStep o s units) n r l u → EachTry (r .place) n l
   tries-read empty = record { count = refl; each = λ m. absurd (let z = at-below m in omega arith) }
-  tries-read (first {n = n} {l = l} {s = r} h rest) =
+  tries-read (first {n = n} {l = l} {from = r} h rest) =
       tries-cons (r .place) (record { start = ap (λ (x : Try). x .start) (h .bytes); count = ap (λ (x : Try). x .count) (h .bytes); handler = ap (λ (x : Try). x .handler) (h .bytes); within = h .within })
       (subst (λ (p : ℕ). EachTry p n l) (sym (h .place)) (tries-read rest))
 
@@ -153,8 +153,8 @@ module _ (o : Endian) (s : List ℕ) (handlers : List Handler) where
   LinkedBy p k n = position (isStart (u16At o s (p + 8 * k + 6))) handlers ≡ some n
 
   links-read : {n p q : ℕ} {l : List ℕ} {k m : ℕ} → Row (LinkStep o s handlers) n p l q → At l k m → LinkedBy p k m
-  links-read {m = m} (first {s = p} h r) here = let z : p + 6 ≡ p + 8 * 0 + 6 = omega arith in subst (λ (x : ℕ). position (isStart (u16At o s x)) handlers ≡ some m) z (h .starts)
-  links-read {m = m} (first {s = p} {t = t} h r) (there {k = k} a) =
+  links-read {m = m} (first {from = p} h r) here = let z : p + 6 ≡ p + 8 * 0 + 6 = omega arith in subst (λ (x : ℕ). position (isStart (u16At o s x)) handlers ≡ some m) z (h .starts)
+  links-read {m = m} (first {from = p} {t = t} h r) (there {k = k} a) =
       let e = h .place in
       let z : t + 8 * k + 6 ≡ p + 8 * suc k + 6 = omega arith in
       subst (λ (x : ℕ). position (isStart (u16At o s x)) handlers ≡ some m) z (links-read r a)

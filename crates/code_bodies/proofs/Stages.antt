@@ -75,7 +75,7 @@ module _ (s : List ℕ) (j : HandlerJudge) (want : ℕ) where
 module _ (s : List ℕ) (j : HandlerJudge) where
   reads-row : {m p u : ℕ} {l : List H.Handler} → Row (HandlerRule s j) m p l u → Row (λ (p : ℕ) (a : H.Handler) (q : ℕ). H.handlerAt s j p ≡ answer (record { item = a; next = q })) m p l u
   reads-row empty = empty
-  reads-row (first {s = p} h r) = first (handler-exact s j p .complete _ h) (reads-row r)
+  reads-row (first {from = p} h r) = first (handler-exact s j p .complete _ h) (reads-row r)
 
   -- the steps over tries, by the list and by going over it again
   walks : (o : Endian) (l : H.HandlerList) → H.handlersAt s j ≡ answer l → (p : ℕ) → linkAt o s (l .handlers) (j .item) p ≡ walkAt o s j (l .first) (length (l .handlers)) p

@@ -16,5 +16,6 @@ link-outcome (N.the-variants.Got n) = answer n
 link-outcome (N.the-variants.Refused r) = refused r
 
 abbrev pub kept-code-outcome : K.KeptCodeAnswer → Outcome KeptCode
-kept-code-outcome (K.the-variants.Got h a l n b f d e) = answer (record { head = h; attempt = a; link = l; handlers = n; brief = b; from = f; base = d; end = e })
+kept-code-outcome (K.the-variants.Got head attempt link handlers brief from base end) =
+    answer (record { head = head; attempt = attempt; link = link; handlers = handlers; brief = brief; from = from; base = base; end = end })
 kept-code-outcome (K.the-variants.Refused r) = refused r

@@ -18,12 +18,12 @@ use Rattle.class_readers.specs.Spots.{onward, methodSpot}
 
 -- what the bytes say
 unfoldable pub codeIn : List ℕ → Spot → Outcome Code
-codeIn f s = codeAt (up-to-end f (s .header)) (plain-frame (s .header)) (s .place)
+codeIn f spot = codeAt (up-to-end f (spot .header)) (plain-frame (spot .header)) (spot .place)
 
 -- its sizes, counts and places
 unfoldable pub outlineUnder : List ℕ → Spot → Outcome (Option Outline)
-outlineUnder f s = do
-  o ← C.outlineAt (up-to-end f (s .header)) (plain-frame (s .header)) (s .place)
+outlineUnder f spot = do
+  o ← C.outlineAt (up-to-end f (spot .header)) (plain-frame (spot .header)) (spot .place)
   answer (some o)
 
 unfoldable pub methodCode : List ℕ → ℕ → ℕ → ℕ → Outcome (Option Outline)
@@ -31,8 +31,8 @@ methodCode f c list k = methodSpot f c list k >>= onward (outlineUnder f)
 
 -- try t, with the number of its handler
 unfoldable pub tryUnder : List ℕ → ℕ → Spot → Outcome (Option C.Linked)
-tryUnder f t s = do
-  l ← C.tryOf (up-to-end f (s .header)) (plain-frame (s .header)) (s .place) t
+tryUnder f t spot = do
+  l ← C.tryOf (up-to-end f (spot .header)) (plain-frame (spot .header)) (spot .place) t
   answer (some l)
 
 unfoldable pub tryNumber : List ℕ → ℕ → ℕ → ℕ → ℕ → Outcome (Option C.Linked)
@@ -40,7 +40,7 @@ tryNumber f c list k t = methodSpot f c list k >>= onward (tryUnder f t)
 
 -- "Asking which try covers an address answers "none" exactly when no try does.": without code no try does
 unfoldable pub coverUnder : List ℕ → ℕ → Spot → Outcome (Option ℕ)
-coverUnder f address s = C.coveringOf (up-to-end f (s .header)) (plain-frame (s .header)) (s .place) address
+coverUnder f address spot = C.coveringOf (up-to-end f (spot .header)) (plain-frame (spot .header)) (spot .place) address
 
 unfoldable pub coveringTry : List ℕ → ℕ → ℕ → ℕ → ℕ → Outcome (Option ℕ)
 coveringTry f c list k address = methodSpot f c list k >>= onward (coverUnder f address)
@@ -53,16 +53,16 @@ unfoldable pub handlerCount : List ℕ → ℕ → ℕ → ℕ → Outcome (Opti
 handlerCount f c list k = methodCode f c list k >>= onward handlersIn
 
 unfoldable pub handlerUnder : List ℕ → ℕ → Spot → Outcome (Option C.Handed)
-handlerUnder f h s = do
-  x ← C.handlerOf (up-to-end f (s .header)) (plain-frame (s .header)) (s .place) h
+handlerUnder f h spot = do
+  x ← C.handlerOf (up-to-end f (spot .header)) (plain-frame (spot .header)) (spot .place) h
   answer (some x)
 
 unfoldable pub handlerNumber : List ℕ → ℕ → ℕ → ℕ → ℕ → Outcome (Option C.Handed)
 handlerNumber f c list k h = methodSpot f c list k >>= onward (handlerUnder f h)
 
 unfoldable pub pairUnder : List ℕ → ℕ → ℕ → Spot → Outcome (Option Pair)
-pairUnder f h p s = do
-  x ← C.pairOf (up-to-end f (s .header)) (plain-frame (s .header)) (s .place) h p
+pairUnder f h p spot = do
+  x ← C.pairOf (up-to-end f (spot .header)) (plain-frame (spot .header)) (spot .place) h p
   answer (some x)
 
 unfoldable pub handlerPair : List ℕ → ℕ → ℕ → ℕ → ℕ → ℕ → Outcome (Option Pair)
@@ -70,8 +70,8 @@ handlerPair f c list k h p = methodSpot f c list k >>= onward (pairUnder f h p)
 
 -- "Instructions are handed out as 16-bit units into a lent output", and 19 last
 unfoldable pub unitsUnder : List ℕ → ℕ → Spot → Outcome (Option ℕ)
-unitsUnder f room s = do
-  c ← codeIn f s
+unitsUnder f room spot = do
+  c ← codeIn f spot
   given (leb (length (c .units)) room) no-room (answer (some (length (c .units))))
 
 unfoldable pub methodUnits : List ℕ → ℕ → ℕ → ℕ → ℕ → Outcome (Option ℕ)
@@ -84,7 +84,7 @@ unitsOver (refused r) out = out
 
 unfoldable pub unitsIn : List ℕ → Outcome (Option Spot) → List ℕ → List ℕ
 unitsIn f (answer none) out = out
-unitsIn f (answer (some s)) out = unitsOver (codeIn f s) out
+unitsIn f (answer (some spot)) out = unitsOver (codeIn f spot) out
 unitsIn f (refused r) out = out
 
 unfoldable pub unitsContent : List ℕ → ℕ → ℕ → ℕ → List ℕ → List ℕ
@@ -92,9 +92,9 @@ unitsContent f c list k out = unitsIn f (methodSpot f c list k) out
 
 -- ---- a stage of the code: so many units from where they begin
 unfoldable pub unitsInto : List ℕ → Spot → ℕ → ℕ → Outcome (Option ℕ)
-unitsInto f s count room = do
-  n ← intoAt (length (up-to-end f (s .header))) (s .place + 16) count room
+unitsInto f spot count room = do
+  n ← intoAt (length (up-to-end f (spot .header))) (spot .place + 16) count room
   answer (some n)
 
 unfoldable pub unitsWritten : List ℕ → Spot → ℕ → List ℕ → List ℕ
-unitsWritten f s count out = leftAt (s .header .order) (up-to-end f (s .header)) (s .place + 16) count out
+unitsWritten f spot count out = leftAt (spot .header .order) (up-to-end f (spot .header)) (spot .place + 16) count out

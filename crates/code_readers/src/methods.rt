@@ -21,14 +21,14 @@ ghost use Rattle.code_readers.specs.Code.{unitsInto, unitsWritten, units
 ghost use Rattle.class_readers.specs.Answers.{maybe-count};
 ghost use Rattle.code_readers.specs.Answers.{maybe-code, maybe-try, maybe-handler, maybe-pair};
 
-fn outline_under(f: &[u8], s: Spot) -> MaybeCodeAnswer
-    ensures { λ r. ⌜ maybe-code r ≡ outlineUnder (now (f .entry)) s ⌝ }
+fn outline_under(f: &[u8], spot: Spot) -> MaybeCodeAnswer
+    ensures { λ r. ⌜ maybe-code r ≡ outlineUnder (now (f .entry)) spot ⌝ }
 {
-    let h = s.header;
+    let header = spot.header;
     match code_item::code_at(
-        header::up_to_end(f, h),
-        header::frame_of(h, 0),
-        s.place as usize,
+        header::up_to_end(f, header),
+        header::plain_frame(header),
+        spot.place as usize,
     ) {
         CodeAnswer::Refused(r) => MaybeCodeAnswer::Refused(r),
         CodeAnswer::Got(o) => MaybeCodeAnswer::Got(o),
@@ -42,7 +42,7 @@ pub fn code(f: &[u8], c: u32, list: u32, k: u32) -> MaybeCodeAnswer
     match class_readers::method_spot(f, c, list, k) {
         SpotAnswer::Refused(r) => MaybeCodeAnswer::Refused(r),
         SpotAnswer::Absent => MaybeCodeAnswer::Absent,
-        SpotAnswer::Got(s) => outline_under(f, s),
+        SpotAnswer::Got(spot) => outline_under(f, spot),
     }
 }
 
@@ -57,14 +57,14 @@ pub fn handler_count(f: &[u8], c: u32, list: u32, k: u32) -> MaybeCountAnswer
     }
 }
 
-fn try_under(f: &[u8], s: Spot, t: u32) -> MaybeTryAnswer
-    ensures { λ r. ⌜ maybe-try r ≡ tryUnder (now (f .entry)) t s ⌝ }
+fn try_under(f: &[u8], spot: Spot, t: u32) -> MaybeTryAnswer
+    ensures { λ r. ⌜ maybe-try r ≡ tryUnder (now (f .entry)) t spot ⌝ }
 {
-    let h = s.header;
+    let header = spot.header;
     match code_item::try_at(
-        header::up_to_end(f, h),
-        header::frame_of(h, 0),
-        s.place as usize,
+        header::up_to_end(f, header),
+        header::plain_frame(header),
+        spot.place as usize,
         t,
     ) {
         TryAnswer::Refused(r) => MaybeTryAnswer::Refused(r),
@@ -79,18 +79,18 @@ pub fn try_item(f: &[u8], c: u32, list: u32, k: u32, t: u32) -> MaybeTryAnswer
     match class_readers::method_spot(f, c, list, k) {
         SpotAnswer::Refused(r) => MaybeTryAnswer::Refused(r),
         SpotAnswer::Absent => MaybeTryAnswer::Absent,
-        SpotAnswer::Got(s) => try_under(f, s, t),
+        SpotAnswer::Got(spot) => try_under(f, spot, t),
     }
 }
 
-fn cover_under(f: &[u8], s: Spot, address: u32) -> CoveringTryAnswer
-    ensures { λ r. ⌜ cover-outcome r ≡ coverUnder (now (f .entry)) address s ⌝ }
+fn cover_under(f: &[u8], spot: Spot, address: u32) -> CoveringTryAnswer
+    ensures { λ r. ⌜ cover-outcome r ≡ coverUnder (now (f .entry)) address spot ⌝ }
 {
-    let h = s.header;
+    let header = spot.header;
     code_item::covering_try(
-        header::up_to_end(f, h),
-        header::frame_of(h, 0),
-        s.place as usize,
+        header::up_to_end(f, header),
+        header::plain_frame(header),
+        spot.place as usize,
         address,
     )
 }
@@ -102,18 +102,18 @@ pub fn covering_try(f: &[u8], c: u32, list: u32, k: u32, address: u32) -> Coveri
     match class_readers::method_spot(f, c, list, k) {
         SpotAnswer::Refused(r) => CoveringTryAnswer::Refused(r),
         SpotAnswer::Absent => CoveringTryAnswer::Got(CoveringTry::Absent),
-        SpotAnswer::Got(s) => cover_under(f, s, address),
+        SpotAnswer::Got(spot) => cover_under(f, spot, address),
     }
 }
 
-fn handler_under(f: &[u8], s: Spot, number: u32) -> MaybeHandlerAnswer
-    ensures { λ r. ⌜ maybe-handler r ≡ handlerUnder (now (f .entry)) number s ⌝ }
+fn handler_under(f: &[u8], spot: Spot, number: u32) -> MaybeHandlerAnswer
+    ensures { λ r. ⌜ maybe-handler r ≡ handlerUnder (now (f .entry)) number spot ⌝ }
 {
-    let h = s.header;
+    let header = spot.header;
     match code_item::handler_at(
-        header::up_to_end(f, h),
-        header::frame_of(h, 0),
-        s.place as usize,
+        header::up_to_end(f, header),
+        header::plain_frame(header),
+        spot.place as usize,
         number,
     ) {
         HandlerAnswer::Refused(r) => MaybeHandlerAnswer::Refused(r),
@@ -128,18 +128,18 @@ pub fn handler(f: &[u8], c: u32, list: u32, k: u32, number: u32) -> MaybeHandler
     match class_readers::method_spot(f, c, list, k) {
         SpotAnswer::Refused(r) => MaybeHandlerAnswer::Refused(r),
         SpotAnswer::Absent => MaybeHandlerAnswer::Absent,
-        SpotAnswer::Got(s) => handler_under(f, s, number),
+        SpotAnswer::Got(spot) => handler_under(f, spot, number),
     }
 }
 
-fn pair_under(f: &[u8], s: Spot, number: u32, p: u32) -> MaybePairAnswer
-    ensures { λ r. ⌜ maybe-pair r ≡ pairUnder (now (f .entry)) number p s ⌝ }
+fn pair_under(f: &[u8], spot: Spot, number: u32, p: u32) -> MaybePairAnswer
+    ensures { λ r. ⌜ maybe-pair r ≡ pairUnder (now (f .entry)) number p spot ⌝ }
 {
-    let h = s.header;
+    let header = spot.header;
     match code_item::pair_at(
-        header::up_to_end(f, h),
-        header::frame_of(h, 0),
-        s.place as usize,
+        header::up_to_end(f, header),
+        header::plain_frame(header),
+        spot.place as usize,
         number,
         p,
     ) {
@@ -155,21 +155,21 @@ pub fn handler_pair(f: &[u8], c: u32, list: u32, k: u32, number: u32, p: u32) ->
     match class_readers::method_spot(f, c, list, k) {
         SpotAnswer::Refused(r) => MaybePairAnswer::Refused(r),
         SpotAnswer::Absent => MaybePairAnswer::Absent,
-        SpotAnswer::Got(s) => pair_under(f, s, number, p),
+        SpotAnswer::Got(spot) => pair_under(f, spot, number, p),
     }
 }
 
 // So many units of the code at a place.
-fn units_into(f: &[u8], s: Spot, count: u32, out: &mut [u16]) -> MaybeCountAnswer
-    ensures answer { λ r. ⌜ maybe-count r ≡ unitsInto (now (f .entry)) s count (length (now (out .entry))) ⌝ }
-    ensures content { λ r. ⌜ now (out .exit) ≡ unitsWritten (now (f .entry)) s count (now (out .entry)) ⌝ }
+fn units_into(f: &[u8], spot: Spot, count: u32, out: &mut [u16]) -> MaybeCountAnswer
+    ensures answer { λ r. ⌜ maybe-count r ≡ unitsInto (now (f .entry)) spot count (length (now (out .entry))) ⌝ }
+    ensures content { λ r. ⌜ now (out .exit) ≡ unitsWritten (now (f .entry)) spot count (now (out .entry)) ⌝ }
 {
-    let h = s.header;
-    let order = h.order;
+    let header = spot.header;
+    let order = header.order;
     match code_units::units_into(
-        header::up_to_end(f, h),
+        header::up_to_end(f, header),
         order,
-        s.place as usize + 16,
+        spot.place as usize + 16,
         count,
         out,
     ) {
@@ -178,20 +178,20 @@ fn units_into(f: &[u8], s: Spot, count: u32, out: &mut [u16]) -> MaybeCountAnswe
     }
 }
 
-fn units_under(f: &[u8], s: Spot, out: &mut [u16]) -> MaybeCountAnswer
-    ensures answer { λ r. ⌜ maybe-count r ≡ unitsUnder (now (f .entry)) (length (now (out .entry))) s ⌝ }
-    ensures content { λ r. ⌜ now (out .exit) ≡ unitsOver (codeIn (now (f .entry)) s) (now (out .entry)) ⌝ }
+fn units_under(f: &[u8], spot: Spot, out: &mut [u16]) -> MaybeCountAnswer
+    ensures answer { λ r. ⌜ maybe-count r ≡ unitsUnder (now (f .entry)) (length (now (out .entry))) spot ⌝ }
+    ensures content { λ r. ⌜ now (out .exit) ≡ unitsOver (codeIn (now (f .entry)) spot) (now (out .entry)) ⌝ }
 {
-    let h = s.header;
+    let header = spot.header;
     match code_item::code_at(
-        header::up_to_end(f, h),
-        header::frame_of(h, 0),
-        s.place as usize,
+        header::up_to_end(f, header),
+        header::plain_frame(header),
+        spot.place as usize,
     ) {
         CodeAnswer::Refused(r) => MaybeCountAnswer::Refused(r),
         CodeAnswer::Got(o) => {
             let head = o.head;
-            units_into(f, s, head.units, out)
+            units_into(f, spot, head.units, out)
         }
     }
 }
@@ -204,6 +204,6 @@ pub fn units(f: &[u8], c: u32, list: u32, k: u32, out: &mut [u16]) -> MaybeCount
     match class_readers::method_spot(f, c, list, k) {
         SpotAnswer::Refused(r) => MaybeCountAnswer::Refused(r),
         SpotAnswer::Absent => MaybeCountAnswer::Absent,
-        SpotAnswer::Got(s) => units_under(f, s, out),
+        SpotAnswer::Got(spot) => units_under(f, spot, out),
     }
 }

@@ -199,7 +199,7 @@ debug-lies s strings item d e =
   where
     names-on : {n p q : ℕ} {l : List (Option ℕ)} → Row (NameRule s strings) n p l q → p ≤ q
     names-on empty = omega arith
-    names-on (first {s = p} {t = t} a r) =
+    names-on (first {from = p} {t = t} a r) =
         let here = plus-one-span s item p (plus-one-exact s item p .complete _ (a .number)) .after-place in
         let rest = names-on r in
         omega arith

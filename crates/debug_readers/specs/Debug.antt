@@ -10,8 +10,8 @@ use Rattle.class_readers.specs.Spots.{onward, debugSpot}
 
 -- the whole, as the bytes say it
 unfoldable pub wholeUnder : List ℕ → Spot → Outcome (Option D.Debug)
-wholeUnder f s = do
-  d ← D.debugAt (up-to-end f (s .header)) (s .header .strings .count) (s .place)
+wholeUnder f spot = do
+  d ← D.debugAt (up-to-end f (spot .header)) (spot .header .strings .count) (spot .place)
   answer (some d)
 
 unfoldable pub debugWhole : List ℕ → ℕ → ℕ → ℕ → Outcome (Option D.Debug)
@@ -19,8 +19,8 @@ debugWhole f c list k = debugSpot f c list k >>= onward (wholeUnder f)
 
 -- the starting line, how many names, and where the program lies
 unfoldable pub extentUnder : List ℕ → Spot → Outcome (Option D.Extent)
-extentUnder f s = do
-  e ← D.extentAt (up-to-end f (s .header)) (s .header .strings .count) (s .place)
+extentUnder f spot = do
+  e ← D.extentAt (up-to-end f (spot .header)) (spot .header .strings .count) (spot .place)
   answer (some e)
 
 unfoldable pub methodDebug : List ℕ → ℕ → ℕ → ℕ → Outcome (Option D.Extent)
@@ -28,8 +28,8 @@ methodDebug f c list k = debugSpot f c list k >>= onward (extentUnder f)
 
 -- name p: a string's number, or no name
 unfoldable pub nameUnder : List ℕ → ℕ → Spot → Outcome (Option (Option ℕ))
-nameUnder f p s = do
-  n ← D.nameOf (up-to-end f (s .header)) (s .header .strings .count) (s .place) p
+nameUnder f p spot = do
+  n ← D.nameOf (up-to-end f (spot .header)) (spot .header .strings .count) (spot .place) p
   answer (some n)
 
 unfoldable pub parameterName : List ℕ → ℕ → ℕ → ℕ → ℕ → Outcome (Option (Option ℕ))

@@ -9,12 +9,16 @@ ghost use mathlib.Core.Path.{_≡_};
 ghost use Rattle.debug_readers.specs.Debug.{extentUnder, methodDebug, nameUnder, parameterName, lineProgram};
 ghost use Rattle.debug_readers.specs.Answers.{maybe-debug, maybe-name};
 
-fn extent_under(f: &[u8], s: Spot) -> MaybeDebugAnswer
-    ensures { λ r. ⌜ maybe-debug r ≡ extentUnder (now (f .entry)) s ⌝ }
+fn extent_under(f: &[u8], spot: Spot) -> MaybeDebugAnswer
+    ensures { λ r. ⌜ maybe-debug r ≡ extentUnder (now (f .entry)) spot ⌝ }
 {
-    let h = s.header;
-    let strings = h.strings;
-    match debug_info::debug_at(header::up_to_end(f, h), strings.count, s.place as usize) {
+    let header = spot.header;
+    let strings = header.strings;
+    match debug_info::debug_at(
+        header::up_to_end(f, header),
+        strings.count,
+        spot.place as usize,
+    ) {
         DebugAnswer::Refused(r) => MaybeDebugAnswer::Refused(r),
         DebugAnswer::Got {
             line,
@@ -37,16 +41,21 @@ pub fn debug(f: &[u8], c: u32, list: u32, k: u32) -> MaybeDebugAnswer
     match class_readers::debug_spot(f, c, list, k) {
         SpotAnswer::Refused(r) => MaybeDebugAnswer::Refused(r),
         SpotAnswer::Absent => MaybeDebugAnswer::Absent,
-        SpotAnswer::Got(s) => extent_under(f, s),
+        SpotAnswer::Got(spot) => extent_under(f, spot),
     }
 }
 
-fn name_under(f: &[u8], s: Spot, p: u32) -> MaybeNameAnswer
-    ensures { λ r. ⌜ maybe-name r ≡ nameUnder (now (f .entry)) p s ⌝ }
+fn name_under(f: &[u8], spot: Spot, p: u32) -> MaybeNameAnswer
+    ensures { λ r. ⌜ maybe-name r ≡ nameUnder (now (f .entry)) p spot ⌝ }
 {
-    let h = s.header;
-    let strings = h.strings;
-    match debug_info::name_at(header::up_to_end(f, h), strings.count, s.place as usize, p) {
+    let header = spot.header;
+    let strings = header.strings;
+    match debug_info::name_at(
+        header::up_to_end(f, header),
+        strings.count,
+        spot.place as usize,
+        p,
+    ) {
         NameAnswer::Refused(r) => MaybeNameAnswer::Refused(r),
         NameAnswer::Got(name) => MaybeNameAnswer::Got(name),
     }
@@ -59,7 +68,7 @@ pub fn debug_parameter(f: &[u8], c: u32, list: u32, k: u32, p: u32) -> MaybeName
     match class_readers::debug_spot(f, c, list, k) {
         SpotAnswer::Refused(r) => MaybeNameAnswer::Refused(r),
         SpotAnswer::Absent => MaybeNameAnswer::Absent,
-        SpotAnswer::Got(s) => name_under(f, s, p),
+        SpotAnswer::Got(spot) => name_under(f, spot, p),
     }
 }
 

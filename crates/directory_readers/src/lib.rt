@@ -48,7 +48,7 @@ pub fn directory_of(f: &[u8], c: u32) -> ReachedAnswer
 {
     match header::header_of(f) {
         HeaderAnswer::Refused(r) => ReachedAnswer::Refused(r),
-        HeaderAnswer::Got(h) => directory_in(f, h, c),
+        HeaderAnswer::Got(header) => directory_in(f, header, c),
     }
 }
 
@@ -59,7 +59,7 @@ pub fn head_in(f: &[u8], header: Header, at: u32) -> DirectoryAnswer
     if 0 < at {
         return match annotation_directories::directory(
             header::up_to_end(f, header),
-            header::frame_of(header, 0),
+            header::plain_frame(header),
             at as usize,
         ) {
             DirectoryHeadAnswer::Refused(r) => DirectoryAnswer::Refused(r),
@@ -76,8 +76,8 @@ pub fn directory(f: &[u8], c: u32) -> DirectoryAnswer
     match directory_of(f, c) {
         ReachedAnswer::Refused(r) => DirectoryAnswer::Refused(r),
         ReachedAnswer::Got(d) => {
-            let h = d.header;
-            head_in(f, h, d.place)
+            let header = d.header;
+            head_in(f, header, d.place)
         }
     }
 }
@@ -89,7 +89,7 @@ pub fn entry_in(f: &[u8], header: Header, at: u32, list: u32, k: u32) -> Directo
     if 0 < at {
         return annotation_directories::directory_entry(
             header::up_to_end(f, header),
-            header::frame_of(header, 0),
+            header::plain_frame(header),
             at as usize,
             list,
             k,
@@ -104,8 +104,8 @@ fn entry_of(f: &[u8], c: u32, list: u32, k: u32) -> DirectoryEntryAnswer
     match directory_of(f, c) {
         ReachedAnswer::Refused(r) => DirectoryEntryAnswer::Refused(r),
         ReachedAnswer::Got(d) => {
-            let h = d.header;
-            entry_in(f, h, d.place, list, k)
+            let header = d.header;
+            entry_in(f, header, d.place, list, k)
         }
     }
 }

@@ -5,3 +5,4 @@ pub mod Exactly
 pub mod Bounds
 pub mod Nested
 pub mod Once
+pub mod Limit

@@ -23,5 +23,5 @@ brief-outcome (B.the-variants.Got b n) = answer (record { item = b; next = n })
 brief-outcome (B.the-variants.Refused r) = refused r
 
 abbrev pub list-outcome : L.HandlersAnswer → Outcome KeptHandlers
-list-outcome (L.the-variants.Got c b f e) = answer (record { count = c; brief = b; first = f; end = e })
+list-outcome (L.the-variants.Got count brief first end) = answer (record { count = count; brief = brief; first = first; end = end })
 list-outcome (L.the-variants.Refused r) = refused r

@@ -28,5 +28,5 @@ section-outcome (S.the-variants.Got d) = answer d
 section-outcome (S.the-variants.Refused r) = refused r
 
 abbrev pub header-outcome : H.HeaderAnswer → Outcome Header
-header-outcome (H.the-variants.Got h) = answer h
+header-outcome (H.the-variants.Got header) = answer header
 header-outcome (H.the-variants.Refused r) = refused r

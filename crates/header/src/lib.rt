@@ -3,7 +3,7 @@ use frame::Frame;
 use refusal::Refusal;
 use word::Endian;
 ghost use mathlib.Core.Path.{_≡_};
-ghost use Rattle.header.specs.Header.{fourOf, four, versionAt, orderAt, tableAllowed, tableAt, threeAt, sectionAt, joined, sectionedAt, tablesAt, bodyAt, versionedAt, headerAt, up-to-end, frame-of};
+ghost use Rattle.header.specs.Header.{fourOf, four, versionAt, orderAt, tableAllowed, tableAt, threeAt, sectionAt, joined, sectionedAt, tablesAt, bodyAt, versionedAt, headerAt, up-to-end, frame-of, plain-frame};
 ghost use Rattle.header.specs.Answers.{order-outcome, table-outcome, three-outcome, section-outcome, header-outcome};
 
 // A table: how many records, and where the first one is.
@@ -367,4 +367,12 @@ pub fn frame_of(header: Header, handles: u32) -> Frame
         methods: methods.count,
         handles,
     }
+}
+
+// The same without method handles, for what can name none: records, lists, class data, code and debug information. Only values hold an index of a
+// handle.
+pub fn plain_frame(header: Header) -> Frame
+    ensures { λ r. ⌜ r ≡ plain-frame header ⌝ }
+{
+    frame_of(header, 0)
 }

@@ -88,32 +88,39 @@ fn pair(a: PairAnswer) -> MaybePairAnswer {
     }
 }
 
-pub(crate) fn row(s: &[u8], kind: u8, f: Frame, item: usize, b: u32, c: u32) -> [u64; 20] {
+pub(crate) fn row(s: &[u8], kind: u8, frame: Frame, item: usize, b: u32, c: u32) -> [u64; 20] {
     if kind == 16 {
-        return answer_rows::debug_row(debug(debug_info::debug_at(s, f.strings, item)));
+        return answer_rows::debug_row(debug(debug_info::debug_at(s, frame.strings, item)));
     }
     if kind == 17 {
-        return answer_rows::name_row(name(debug_info::name_at(s, f.strings, item, b)));
+        return answer_rows::name_row(name(debug_info::name_at(s, frame.strings, item, b)));
     }
     if kind == 18 {
-        return data_row(class_data::class_data_at(s, f, item));
+        return data_row(class_data::class_data_at(s, frame, item));
     }
-    answer_rows::found_row(member(class_data::member_at(s, f, item, b, c)))
+    answer_rows::found_row(member(class_data::member_at(s, frame, item, b, c)))
 }
 
-pub(crate) fn code_row(s: &[u8], kind: u8, f: Frame, item: usize, b: u32) -> [u64; 20] {
+pub(crate) fn code_row(s: &[u8], kind: u8, frame: Frame, item: usize, b: u32) -> [u64; 20] {
     if kind == 20 {
-        return answer_rows::code_row(code(code_item::code_at(s, f, item)));
+        return answer_rows::code_row(code(code_item::code_at(s, frame, item)));
     }
-    answer_rows::try_row(attempt(code_item::try_at(s, f, item, b)))
+    answer_rows::try_row(attempt(code_item::try_at(s, frame, item, b)))
 }
 
-pub(crate) fn handler_row(s: &[u8], kind: u8, f: Frame, item: usize, b: u32, c: u32) -> [u64; 20] {
+pub(crate) fn handler_row(
+    s: &[u8],
+    kind: u8,
+    frame: Frame,
+    item: usize,
+    b: u32,
+    c: u32,
+) -> [u64; 20] {
     if kind == 22 {
-        return answer_rows::handler_row(handler(code_item::handler_at(s, f, item, b)));
+        return answer_rows::handler_row(handler(code_item::handler_at(s, frame, item, b)));
     }
     if kind == 23 {
-        return answer_rows::pair_row(pair(code_item::pair_at(s, f, item, b, c)));
+        return answer_rows::pair_row(pair(code_item::pair_at(s, frame, item, b, c)));
     }
-    answer_rows::cover_row(code_item::covering_try(s, f, item, b))
+    answer_rows::cover_row(code_item::covering_try(s, frame, item, b))
 }

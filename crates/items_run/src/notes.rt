@@ -19,50 +19,54 @@ fn directory(h: DirectoryHeadAnswer) -> DirectoryAnswer {
     }
 }
 
-pub(crate) fn row(s: &[u8], kind: u8, f: Frame, item: usize, k: u32) -> [u64; 20] {
+pub(crate) fn row(s: &[u8], kind: u8, frame: Frame, item: usize, k: u32) -> [u64; 20] {
     if kind == 32 {
-        return answer_rows::word_row(visibility(annotation_items::annotation_item(s, f, item)));
+        return answer_rows::word_row(visibility(annotation_items::annotation_item(s, frame, item)));
     }
     if kind == 33 {
-        return answer_rows::annotation_row(annotation_items::annotation(s, f, item));
+        return answer_rows::annotation_row(annotation_items::annotation(s, frame, item));
     }
-    answer_rows::element_row(annotation_items::annotation_element(s, f, item, k))
+    answer_rows::element_row(annotation_items::annotation_element(s, frame, item, k))
 }
 
-pub(crate) fn list_row(s: &[u8], kind: u8, f: Frame, item: usize, k: u32) -> [u64; 20] {
+pub(crate) fn list_row(s: &[u8], kind: u8, frame: Frame, item: usize, k: u32) -> [u64; 20] {
     if kind == 35 {
-        return answer_rows::word_row(annotation_lists::set_count(s, f, item));
+        return answer_rows::word_row(annotation_lists::set_count(s, frame, item));
     }
     if kind == 36 {
-        return answer_rows::word_row(annotation_lists::set_offset(s, f, item, k));
+        return answer_rows::word_row(annotation_lists::set_offset(s, frame, item, k));
     }
     if kind == 37 {
-        return answer_rows::word_row(annotation_lists::reference_count(s, f, item));
+        return answer_rows::word_row(annotation_lists::reference_count(s, frame, item));
     }
-    answer_rows::word_row(annotation_lists::reference_offset(s, f, item, k))
+    answer_rows::word_row(annotation_lists::reference_offset(s, frame, item, k))
 }
 
 // A directory, and entry k of one of its lists.
 pub(crate) fn directory_row(
     s: &[u8],
     kind: u8,
-    f: Frame,
+    frame: Frame,
     item: usize,
     list: u32,
     k: u32,
 ) -> [u64; 20] {
     if kind == 39 {
-        return answer_rows::directory_row(directory(annotation_directories::directory(s, f, item)));
+        return answer_rows::directory_row(directory(annotation_directories::directory(
+            s,
+            frame,
+            item,
+        )));
     }
-    answer_rows::place_row(annotation_directories::directory_entry(s, f, item, list, k))
+    answer_rows::place_row(annotation_directories::directory_entry(s, frame, item, list, k))
 }
 
-pub(crate) fn check_row(s: &[u8], kind: u8, f: Frame, item: usize) -> [u64; 20] {
+pub(crate) fn check_row(s: &[u8], kind: u8, frame: Frame, item: usize) -> [u64; 20] {
     if kind == 41 {
-        return answer_rows::checked_row(annotation_walk::check_set(s, f, item));
+        return answer_rows::checked_row(annotation_walk::check_set(s, frame, item));
     }
     if kind == 42 {
-        return answer_rows::checked_row(annotation_walk::check_references(s, f, item));
+        return answer_rows::checked_row(annotation_walk::check_references(s, frame, item));
     }
-    answer_rows::checked_row(annotation_walk::check_directory(s, f, item))
+    answer_rows::checked_row(annotation_walk::check_directory(s, frame, item))
 }

@@ -224,8 +224,8 @@ module _ (s : List ℕ) (j : MapJudge) where
 
   row-fits : {n : ℕ} {t u : Scan} {l : List MapEntry} → length (t .seen) ≡ 21 → Rows n t l u → Fit s j t l × (Given l (t .handles) (u .handles) × (length l ≡ n))
   unfolding handlesOf
-  row-fits long (empty {s = t}) = (fit-none t, (kept λ k e m q. none-in m, refl))
-  row-fits long (first {a = e} {l = l} {s = t} {t = v} {u = u} h r) =
+  row-fits long (empty {from = t}) = (fit-none t, (kept λ k e m q. none-in m, refl))
+  row-fits long (first {a = e} {l = l} {from = t} {t = v} {u = u} h r) =
       let step : Judged s j t e (after-entry t e) = record { stands = h .stands; known = h .known; high = h .high; fresh = h .fresh; own = h .own; next = refl } in
       let rest = row-fits (rest-long long h) r in (
         fit-cons long step (subst (λ (x : Scan). Fit s j x l) (sym (h .next)) (rest .0)),
@@ -268,17 +268,15 @@ module _ (s : List ℕ) (j : MapJudge) where
       (bind-exact _ _ (collect-exact (stepAt s j) (Judged s j) (step-exact s j) (u32At (j .order) s (j .at)) (begin (j .at + 4))) (λ r. answer-exact (record { entries = r .item; handles = r .next .handles })))))
       (λ m h. subst (MapEntriesRule s j) (h .1 .1 .1 .1) (there-from (h .1 .1 .0 .item) (h .1 .1 .0 .next) (h .1 .0) (h .1 .1 .1 .0)))
       (λ m r.
-      let rows = rows-of (m .entries) (u32At (j .order) s (j .at)) (begin (j .at + 4)) (sym (r .size)) (fit-begin r) in
+      let rows = rows-of (m .entries) (u32At (j .order) s (j .at)) (begin (j .at + 4)) (r .entries .count) (fit-begin r) in
       let fits = row-fits refl (rows .1) in
-      let size = r .size in
       let room = r .room in
-      (omega arith, (omega arith, (record { item = m .entries; next = rows .0 }, (rows .1, λ i. record { entries = m .entries; handles = handles-same (λ i k x y m n q. r .once m n q) (given-in (fits .1 .0)) (r .handles) i })))))
+      (omega arith, (room, (record { item = m .entries; next = rows .0 }, (rows .1, λ i. record { entries = m .entries; handles = handles-same (λ i k x y m n q. r .once m n q) (given-in (fits .1 .0)) (r .handles) i })))))
     where
       there-from : (l : List MapEntry) (u : Scan) → j .at + 4 + 12 * u32At (j .order) s (j .at) ≤ length s → Rows (u32At (j .order) s (j .at)) (begin (j .at + 4)) l u → MapEntriesRule s j (record { entries = l; handles = u .handles })
       there-from l u p r =
           let fits = row-fits refl r in
-          let size = fits .1 .1 in
-          record { size = sym size; room = omega arith; entries = record { count = refl; each = λ n. fits .0 .each n }; rising = fits .0 .rising; once = fits .0 .once; handles = given-in (fits .1 .0) }
+          record { room = p; entries = record { count = fits .1 .1; each = λ n. fits .0 .each n }; rising = fits .0 .rising; once = fits .0 .once; handles = given-in (fits .1 .0) }
 
 -- as many entries as were asked for
 pub counted : (s : List ℕ) (j : MapJudge) (count from : ℕ) (r : Found (List MapEntry) Scan) → collect count (stepAt s j) (begin from) ≡ answer r → length (r .item) ≡ count

@@ -41,11 +41,10 @@ pub data HandlesIn (l : List MapEntry) : Table → Type 0 where
   named : {k : ℕ} {e : MapEntry} → At l k e → e .kind ≡ 8 → HandlesIn l (record { count = e .size; offset = e .offset })
   unnamed : ((k : ℕ) (e : MapEntry) → At l k e → e .kind ≡ 8 → ⊥) → HandlesIn l (record { count = 0; offset = 0 })
 
--- entry k at its place, offsets that rise, each type at most once
+-- as many entries as the stored size says, with room for all of them, entry k at its place, offsets that rise, each type at most once
 pub record MapEntriesRule (s : List ℕ) (j : MapJudge) (m : Map) : Type 0 where
-  pub size : u32At (j .order) s (j .at) ≡ length (m .entries)
-  pub room : j .at + 4 + 12 * length (m .entries) ≤ length s
-  pub entries : Each (λ (k : ℕ) (e : MapEntry). MapEntryAt s j (j .at + 4 + 12 * k) e) (length (m .entries)) (m .entries)
+  pub room : j .at + 4 + 12 * u32At (j .order) s (j .at) ≤ length s
+  pub entries : Each (λ (k : ℕ) (e : MapEntry). MapEntryAt s j (j .at + 4 + 12 * k) e) (u32At (j .order) s (j .at)) (m .entries)
   pub rising : Rising Lower (m .entries)
   pub once : {i k : ℕ} {a b : MapEntry} → At (m .entries) i a → At (m .entries) k b → a .kind ≡ b .kind → i ≡ k
   pub handles : HandlesIn (m .entries) (m .handles)

@@ -23,5 +23,5 @@ outputOf name o = heading name ++ reportOf o
 
 -- what an input comes to that was read: 0 where it is accepted, 1 where it is refused
 abbrev pub status : Outcome Header → ℕ
-status (answer h) = 0
+status (answer header) = 0
 status (refused r) = 1

@@ -37,7 +37,7 @@ unfolding checkAt
 promises f =
     record {
       accepted-exactly = accepted-iff (file-exact f);
-      readings-equal = λ {r} {s} p q. same (file-exact f) r s p q;
+      readings-equal = λ {r} {other} p q. same (file-exact f) r other p q;
       strings-distinct = λ {r} p m n e. bytes-distinct f (r .header) (p .strings) m n e;
       types-distinct = λ {r} p m n. I.types-distinct f (plain-frame (r .header)) (r .header .types .offset) (p .types) m n refl;
       readers-answer = λ p. readers-answer f p;

@@ -64,8 +64,8 @@ elements-back (e ∷ es) = ap (λ (l : List Named). e ∷ l) (elements-back es)
 
 -- ---- number k of a row stands at a place no earlier than the row's
 pub row-at : {A : Type 0} {s : List ℕ} {P : ℕ → A → ℕ → Type 0} {n p q k : ℕ} {l : List A} {a : A} → Ends s P → Row P n p l q → At l k a → (x y : ℕ) × (P x a y × (p ≤ x))
-row-at ends (first {s = p} {t = t} h r) here = (p, t, (h, omega arith))
-row-at ends (first {a = b} {s = p} {t = t} h r) (there m) =
+row-at ends (first {from = p} {t = t} h r) here = (p, t, (h, omega arith))
+row-at ends (first {a = b} {from = p} {t = t} h r) (there m) =
     let i = row-at ends r m in
     let e = ends p b t h .after-place in
     let x = i .2 .1 in

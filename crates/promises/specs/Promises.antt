@@ -26,11 +26,11 @@ pub record Promises (f : List ℕ) : Type 1 where
   -- "A file is accepted exactly when header, tables and every reached item obey document 01's rules"
   pub accepted-exactly : (checkAt f ≡ answer tt) ↔ Obeys f
   -- "Two readings of an accepted file are equal."
-  pub readings-equal : {r s : File} → Reads f r → Reads f s → r ≡ s
+  pub readings-equal : {r other : File} → Reads f r → Reads f other → r ≡ other
   -- "No two string numbers have the same text"
   pub strings-distinct : {r : File} {i j : ℕ} {a b : Text} → Reads f r → At (r .strings) i a → At (r .strings) j b → a .bytes ≡ b .bytes → i ≡ j
   -- ".. no two type numbers the same string."
-  pub types-distinct : {r : File} {i j s : ℕ} → Reads f r → At (r .types) i s → At (r .types) j s → i ≡ j
+  pub types-distinct : {r : File} {i j string : ℕ} → Reads f r → At (r .types) i string → At (r .types) j string → i ≡ j
   -- "Every reader answers for each number and place that the file gives."
   pub readers-answer : {r : File} → Reads f r → ReadersAnswer f r
   -- .. and what it answers is what the one reading of the file says

@@ -13,7 +13,7 @@ use Rattle.report.specs.Decimal.{decimal}
 -- the bytes of a text of ASCII
 abbrev pub ascii : String → List ℕ
 ascii []ᵗ = []
-ascii (c ∷ᵗ s) = code c ∷ ascii s
+ascii (c ∷ᵗ rest) = code c ∷ ascii rest
 
 pub record Line : Type 0 where
   pub name : List ℕ
@@ -60,7 +60,7 @@ refused-lines r =
 
 -- a verdict: the header of a file that is accepted, or the refusal
 abbrev pub verdict-lines : Outcome Header → List Line
-verdict-lines (answer h) = accepted-lines h
+verdict-lines (answer header) = accepted-lines header
 verdict-lines (refused r) = refused-lines r
 
 -- the report of a verdict, byte for byte

@@ -228,7 +228,7 @@ pub fn verdict_into(verdict: Verdict, out: &mut [u8]) -> ReportAnswer
     ensures wrote { λ r. ⌜ now (out .exit) ≡ content (reportOf (verdict-outcome verdict)) (now (out .entry)) ⌝ }
 {
     match verdict {
-        Verdict::Accepted(h) => accepted_into(h, out),
+        Verdict::Accepted(header) => accepted_into(header, out),
         Verdict::Refused(r) => refused_into(r, out),
     }
 }

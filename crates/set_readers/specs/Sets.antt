@@ -61,7 +61,7 @@ setNumber f header at k = cond (ltb 0 at) (offsetNumber (up-to-end f header) (pl
 
 -- the same of a set that is reached, if it is
 unfoldable pub annotationCount : List ℕ → Outcome Reached → Outcome ℕ
-annotationCount f set = set >>= λ s. setCount f (s .header) (s .place)
+annotationCount f set = set >>= λ reached. setCount f (reached .header) (reached .place)
 
 unfoldable pub annotationPlace : List ℕ → Outcome Reached → ℕ → Outcome ℕ
-annotationPlace f set k = set >>= λ s. setNumber f (s .header) (s .place) k
+annotationPlace f set k = set >>= λ reached. setNumber f (reached .header) (reached .place) k

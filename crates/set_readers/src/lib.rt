@@ -35,8 +35,8 @@ fn class_set(f: &[u8], c: u32) -> ReachedAnswer
     match directory_readers::directory_of(f, c) {
         ReachedAnswer::Refused(r) => ReachedAnswer::Refused(r),
         ReachedAnswer::Got(d) => {
-            let h = d.header;
-            class_set_in(f, h, d.place)
+            let header = d.header;
+            class_set_in(f, header, d.place)
         }
     }
 }
@@ -60,8 +60,8 @@ fn entry_set(f: &[u8], c: u32, list: u32, e: u32) -> ReachedAnswer
     match directory_readers::directory_of(f, c) {
         ReachedAnswer::Refused(r) => ReachedAnswer::Refused(r),
         ReachedAnswer::Got(d) => {
-            let h = d.header;
-            entry_set_in(f, h, d.place, list, e)
+            let header = d.header;
+            entry_set_in(f, header, d.place, list, e)
         }
     }
 }
@@ -72,7 +72,7 @@ fn parameter_set_in(f: &[u8], header: Header, at: u32, p: u32) -> ReachedAnswer
 {
     match annotation_lists::reference_offset(
         header::up_to_end(f, header),
-        header::frame_of(header, 0),
+        header::plain_frame(header),
         at as usize,
         p,
     ) {
@@ -90,8 +90,8 @@ fn parameter_set(f: &[u8], c: u32, e: u32, p: u32) -> ReachedAnswer
     match entry_set(f, c, 2, e) {
         ReachedAnswer::Refused(r) => ReachedAnswer::Refused(r),
         ReachedAnswer::Got(l) => {
-            let h = l.header;
-            parameter_set_in(f, h, l.place, p)
+            let header = l.header;
+            parameter_set_in(f, header, l.place, p)
         }
     }
 }
@@ -101,7 +101,7 @@ fn references_in(f: &[u8], header: Header, at: u32) -> WordAnswer
 {
     annotation_lists::reference_count(
         header::up_to_end(f, header),
-        header::frame_of(header, 0),
+        header::plain_frame(header),
         at as usize,
     )
 }
@@ -113,8 +113,8 @@ pub fn parameter_set_count(f: &[u8], c: u32, e: u32) -> WordAnswer
     match entry_set(f, c, 2, e) {
         ReachedAnswer::Refused(r) => WordAnswer::Refused(r),
         ReachedAnswer::Got(l) => {
-            let h = l.header;
-            references_in(f, h, l.place)
+            let header = l.header;
+            references_in(f, header, l.place)
         }
     }
 }
@@ -126,7 +126,7 @@ fn set_count(f: &[u8], header: Header, at: u32) -> WordAnswer
     if 0 < at {
         return annotation_lists::set_count(
             header::up_to_end(f, header),
-            header::frame_of(header, 0),
+            header::plain_frame(header),
             at as usize,
         );
     }
@@ -139,7 +139,7 @@ fn set_number(f: &[u8], header: Header, at: u32, k: u32) -> WordAnswer
     if 0 < at {
         return annotation_lists::set_offset(
             header::up_to_end(f, header),
-            header::frame_of(header, 0),
+            header::plain_frame(header),
             at as usize,
             k,
         );
@@ -153,9 +153,9 @@ fn count_of(f: &[u8], set: ReachedAnswer) -> WordAnswer
 {
     match set {
         ReachedAnswer::Refused(r) => WordAnswer::Refused(r),
-        ReachedAnswer::Got(s) => {
-            let h = s.header;
-            set_count(f, h, s.place)
+        ReachedAnswer::Got(reached) => {
+            let header = reached.header;
+            set_count(f, header, reached.place)
         }
     }
 }
@@ -166,9 +166,9 @@ fn place_of(f: &[u8], set: ReachedAnswer, k: u32) -> WordAnswer
 {
     match set {
         ReachedAnswer::Refused(r) => WordAnswer::Refused(r),
-        ReachedAnswer::Got(s) => {
-            let h = s.header;
-            set_number(f, h, s.place, k)
+        ReachedAnswer::Got(reached) => {
+            let header = reached.header;
+            set_number(f, header, reached.place, k)
         }
     }
 }

@@ -13,7 +13,7 @@ use Rattle.table_readers.specs.declared.Opened.{Opened}
 
 -- the 20 bytes of the signature, none where the header is refused
 unfoldable pub signed-by : List ℕ → Outcome Header → List ℕ
-signed-by f (answer h) = stretch f 12 20
+signed-by f (answer header) = stretch f 12 20
 signed-by f (refused r) = []
 
 unfoldable pub signatureOf : List ℕ → List ℕ
@@ -21,8 +21,8 @@ signatureOf f = signed-by f (headerAt f)
 
 unfoldable pub mapCount : List ℕ → Outcome ℕ
 mapCount f = do
-  h ← headerAt f
-  m ← keptAt f h
+  header ← headerAt f
+  m ← keptAt f header
   answer (m .count)
 
 -- "7: the caller asks for a number that is not there"
@@ -36,8 +36,8 @@ mapEntry f k = headerAt f >>= mapEntryIn f k
 
 unfoldable pub handleCount : List ℕ → Outcome ℕ
 handleCount f = do
-  h ← headerAt f
-  m ← keptAt f h
+  header ← headerAt f
+  m ← keptAt f header
   answer (m .handles .count)
 
 -- the header, and how many method handles the map gives

@@ -13,8 +13,8 @@ use Rattle.string_ids.specs.Strings.{stringOf, stringExtent, lookedUp}
 -- string n: header, 7 for the number, the record, the item
 unfoldable pub stringNumber : List ℕ → ℕ → Outcome Text
 stringNumber f n = do
-  h ← headerAt f
-  given (ltb n (h .strings .count)) not-there (stringOf f h n)
+  header ← headerAt f
+  given (ltb n (header .strings .count)) not-there (stringOf f header n)
 
 -- "The reader hands back the text's bytes, without the zero, as a part of the file": none where it is refused
 unfoldable pub bytesOf : Outcome Text → List ℕ
@@ -23,8 +23,8 @@ bytesOf (refused r) = []
 
 unfoldable pub findString : List ℕ → List ℕ → Outcome (Option ℕ)
 findString f text = do
-  h ← headerAt f
-  lookedUp f h text
+  header ← headerAt f
+  lookedUp f header text
 
 -- where the text lies: what the code hands out
 unfoldable pub stringExtentOf : List ℕ → ℕ → Outcome Extent

@@ -33,7 +33,7 @@ pub fn map_count(f: &[u8]) -> CountAnswer
 {
     match header::header_of(f) {
         HeaderAnswer::Refused(r) => CountAnswer::Refused(r),
-        HeaderAnswer::Got(h) => match map_list::map_of(f, h) {
+        HeaderAnswer::Got(header) => match map_list::map_of(f, header) {
             MapAnswer::Refused(r) => CountAnswer::Refused(r),
             MapAnswer::Got(m) => CountAnswer::Got(m.count),
         },
@@ -46,7 +46,7 @@ pub fn map_entry(f: &[u8], k: u32) -> MapEntryAnswer
 {
     match header::header_of(f) {
         HeaderAnswer::Refused(r) => MapEntryAnswer::Refused(r),
-        HeaderAnswer::Got(h) => map_entry_in(f, h, k),
+        HeaderAnswer::Got(header) => map_entry_in(f, header, k),
     }
 }
 
@@ -70,7 +70,7 @@ pub fn handle_count(f: &[u8]) -> CountAnswer
 {
     match header::header_of(f) {
         HeaderAnswer::Refused(r) => CountAnswer::Refused(r),
-        HeaderAnswer::Got(h) => match map_list::map_of(f, h) {
+        HeaderAnswer::Got(header) => match map_list::map_of(f, header) {
             MapAnswer::Refused(r) => CountAnswer::Refused(r),
             MapAnswer::Got(m) => {
                 let handles = m.handles;
@@ -101,6 +101,6 @@ pub fn open(f: &[u8]) -> OpenedAnswer
 {
     match header::header_of(f) {
         HeaderAnswer::Refused(r) => OpenedAnswer::Refused(r),
-        HeaderAnswer::Got(h) => mapped(f, h),
+        HeaderAnswer::Got(header) => mapped(f, header),
     }
 }

@@ -36,7 +36,7 @@ pub fn parameter_count(f: &[u8], n: u32) -> TypeCountAnswer
 {
     match header::header_of(f) {
         HeaderAnswer::Refused(r) => TypeCountAnswer::Refused(r),
-        HeaderAnswer::Got(h) => parameters_in(f, h, n),
+        HeaderAnswer::Got(header) => parameters_in(f, header, n),
     }
 }
 
@@ -55,7 +55,7 @@ pub fn parameter(f: &[u8], n: u32, k: u32) -> TypeAnswer
 {
     match header::header_of(f) {
         HeaderAnswer::Refused(r) => TypeAnswer::Refused(r),
-        HeaderAnswer::Got(h) => parameter_in(f, h, n, k),
+        HeaderAnswer::Got(header) => parameter_in(f, header, n, k),
     }
 }
 
@@ -74,7 +74,7 @@ pub fn interface_count(f: &[u8], n: u32) -> TypeCountAnswer
 {
     match header::header_of(f) {
         HeaderAnswer::Refused(r) => TypeCountAnswer::Refused(r),
-        HeaderAnswer::Got(h) => interfaces_in(f, h, n),
+        HeaderAnswer::Got(header) => interfaces_in(f, header, n),
     }
 }
 
@@ -93,7 +93,7 @@ pub fn interface(f: &[u8], n: u32, k: u32) -> TypeAnswer
 {
     match header::header_of(f) {
         HeaderAnswer::Refused(r) => TypeAnswer::Refused(r),
-        HeaderAnswer::Got(h) => interface_in(f, h, n, k),
+        HeaderAnswer::Got(header) => interface_in(f, header, n, k),
     }
 }
 

@@ -14,7 +14,7 @@ pub fn string(f: &[u8], n: u32) -> TextAnswer
 {
     match header::header_of(f) {
         HeaderAnswer::Refused(r) => TextAnswer::Refused(r),
-        HeaderAnswer::Got(h) => string_in(f, h, n),
+        HeaderAnswer::Got(header) => string_in(f, header, n),
     }
 }
 
@@ -48,6 +48,6 @@ pub fn find_string(f: &[u8], text: &[u8]) -> LookupAnswer
 {
     match header::header_of(f) {
         HeaderAnswer::Refused(r) => LookupAnswer::Refused(r),
-        HeaderAnswer::Got(h) => string_ids::look_up(f, h, text),
+        HeaderAnswer::Got(header) => string_ids::look_up(f, header, text),
     }
 }

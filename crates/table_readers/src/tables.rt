@@ -19,7 +19,7 @@ pub fn type_name(f: &[u8], n: u32) -> IndexAnswer
 {
     match header::header_of(f) {
         HeaderAnswer::Refused(r) => IndexAnswer::Refused(r),
-        HeaderAnswer::Got(h) => type_in(f, h, n),
+        HeaderAnswer::Got(header) => type_in(f, header, n),
     }
 }
 
@@ -28,7 +28,7 @@ fn type_in(f: &[u8], header: Header, n: u32) -> IndexAnswer
 {
     let t = header.types;
     if n < t.count {
-        return ids::type_at(f, header::frame_of(header, 0), t.offset, n);
+        return ids::type_at(f, header::plain_frame(header), t.offset, n);
     }
     IndexAnswer::Refused(refusal::not_there())
 }
@@ -39,7 +39,7 @@ pub fn proto(f: &[u8], n: u32) -> ProtoAnswer
 {
     match header::header_of(f) {
         HeaderAnswer::Refused(r) => ProtoAnswer::Refused(r),
-        HeaderAnswer::Got(h) => proto_in(f, h, n),
+        HeaderAnswer::Got(header) => proto_in(f, header, n),
     }
 }
 
@@ -48,7 +48,7 @@ pub fn proto_in(f: &[u8], header: Header, n: u32) -> ProtoAnswer
 {
     let t = header.protos;
     if n < t.count {
-        return ids::proto_at(f, header::frame_of(header, 0), header.end, t.offset, n);
+        return ids::proto_at(f, header::plain_frame(header), header.end, t.offset, n);
     }
     ProtoAnswer::Refused(refusal::not_there())
 }
@@ -59,7 +59,7 @@ pub fn field(f: &[u8], n: u32) -> MemberIdAnswer
 {
     match header::header_of(f) {
         HeaderAnswer::Refused(r) => MemberIdAnswer::Refused(r),
-        HeaderAnswer::Got(h) => field_in(f, h, n),
+        HeaderAnswer::Got(header) => field_in(f, header, n),
     }
 }
 
@@ -69,7 +69,7 @@ fn field_in(f: &[u8], header: Header, n: u32) -> MemberIdAnswer
     let t = header.fields;
     let types = header.types;
     if n < t.count {
-        return ids::member_at(f, header::frame_of(header, 0), types.count, t.offset, n);
+        return ids::member_at(f, header::plain_frame(header), types.count, t.offset, n);
     }
     MemberIdAnswer::Refused(refusal::not_there())
 }
@@ -80,7 +80,7 @@ pub fn method(f: &[u8], n: u32) -> MemberIdAnswer
 {
     match header::header_of(f) {
         HeaderAnswer::Refused(r) => MemberIdAnswer::Refused(r),
-        HeaderAnswer::Got(h) => method_in(f, h, n),
+        HeaderAnswer::Got(header) => method_in(f, header, n),
     }
 }
 
@@ -90,7 +90,7 @@ fn method_in(f: &[u8], header: Header, n: u32) -> MemberIdAnswer
     let t = header.methods;
     let protos = header.protos;
     if n < t.count {
-        return ids::member_at(f, header::frame_of(header, 0), protos.count, t.offset, n);
+        return ids::member_at(f, header::plain_frame(header), protos.count, t.offset, n);
     }
     MemberIdAnswer::Refused(refusal::not_there())
 }
@@ -101,7 +101,7 @@ pub fn class(f: &[u8], n: u32) -> ClassAnswer
 {
     match header::header_of(f) {
         HeaderAnswer::Refused(r) => ClassAnswer::Refused(r),
-        HeaderAnswer::Got(h) => class_in(f, h, n),
+        HeaderAnswer::Got(header) => class_in(f, header, n),
     }
 }
 
@@ -110,7 +110,7 @@ pub fn class_in(f: &[u8], header: Header, n: u32) -> ClassAnswer
 {
     let t = header.classes;
     if n < t.count {
-        return class_ids::class_at(f, header::frame_of(header, 0), header.end, t.offset, n);
+        return class_ids::class_at(f, header::plain_frame(header), header.end, t.offset, n);
     }
     ClassAnswer::Refused(refusal::not_there())
 }
@@ -121,7 +121,7 @@ pub fn handle(f: &[u8], n: u32) -> HandleAnswer
 {
     match header::header_of(f) {
         HeaderAnswer::Refused(r) => HandleAnswer::Refused(r),
-        HeaderAnswer::Got(h) => handle_in(f, h, n),
+        HeaderAnswer::Got(header) => handle_in(f, header, n),
     }
 }
 

@@ -1,7 +1,7 @@
 -- A type list's reading finds exactly what the rule allows.
 -- Assumes nothing.
 use Prim.Native.Nat.{ℕ, _+_, _*_, _<_}
-use mathlib.Core.Path.{_≡_, refl, sym, subst}
+use mathlib.Core.Path.{_≡_, sym, subst}
 use mathlib.Core.List.{List}
 use lib.ListN.{length}
 use native.Mathlib.Omega.{arith}
@@ -38,8 +38,8 @@ module _ (s : List ℕ) (j : TypeListJudge) where
   unfolding listAt listOf
   list-exact =
       exact-iff (given-exact (runs-past (j .at)) (at-most (j .at + 4) (length s)) (given-exact (runs-past (j .at)) (at-most (j .at + 4 + 2 * u32At (j .order) s (j .at)) (length s)) (all-exact (u32At (j .order) s (j .at)))))
-      (λ l h. let size = h .1 .1 .count in let room = h .1 .0 in record { size = sym size; room = omega arith; entries = record { count = refl; each = h .1 .1 .each } })
-      (λ l h. let size = h .size in let room = h .room in (omega arith, (omega arith, record { count = sym size; each = h .entries .each })))
+      (λ l h. record { room = h .1 .0; entries = h .1 .1 })
+      (λ l h. let room = h .room in (omega arith, (h .room, h .entries)))
 
   pub list-same : (a b : List ℕ) → TypeListRule s j a → TypeListRule s j b → a ≡ b
   list-same = same list-exact

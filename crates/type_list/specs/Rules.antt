@@ -16,11 +16,10 @@ pub record TypeEntryRule (s : List ℕ) (j : TypeListJudge) (k t : ℕ) : Type 0
   pub stands : entryNumber s j k ≡ t
   pub range : t < j .types
 
--- the size, room for all entries, and for each k below the size entry k
+-- as many entries as the stored size says, with room for all of them, and entry k at its place
 pub record TypeListRule (s : List ℕ) (j : TypeListJudge) (l : List ℕ) : Type 0 where
-  pub size : u32At (j .order) s (j .at) ≡ length l
-  pub room : j .at + 4 + 2 * length l ≤ length s
-  pub entries : Each (TypeEntryRule s j) (length l) l
+  pub room : j .at + 4 + 2 * u32At (j .order) s (j .at) ≤ length s
+  pub entries : Each (TypeEntryRule s j) (u32At (j .order) s (j .at)) l
 
 -- the list that an offset leads to, none exactly where the offset is 0
 abbrev pub TypesBelowRule : List ℕ → Header → ℕ → Option (List ℕ) → Type 0

@@ -42,9 +42,9 @@ module _ {A : Type 0} (step : ℕ → Outcome (Found A ℕ)) where
     pub reached : {n p q : ℕ} {l : List A} (k : ℕ) → k < n → Row Step n p l q → Reached k p l
     unfolding repeat
     reached k h empty = absurd (omega arith)
-    reached zero h (first {a = a} {s = p} {t = t} e r) =
+    reached zero h (first {a = a} {from = p} {t = t} e r) =
         record { place = p; after = t; item = a; way = refl; there-is = exact p .complete (record { item = a; next = t }) e; number-is = here }
-    reached (suc k) h (first {a = a} {s = p} {t = t} e r) =
+    reached (suc k) h (first {a = a} {from = p} {t = t} e r) =
         let m = reached k (omega arith) r in
         record {
           place = m .place;

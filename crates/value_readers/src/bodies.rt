@@ -36,10 +36,10 @@ pub fn array(f: &[u8], place: usize) -> ArrayAnswer
     match super::opening::open_within(f, place) {
         OpenedAnswer::Refused(r) => ArrayAnswer::Refused(r),
         OpenedAnswer::Got(o) => {
-            let h = o.header;
+            let header = o.header;
             array_body(
-                header::up_to_end(f, h),
-                super::opening::walk_in(h, o.handles, place),
+                header::up_to_end(f, header),
+                super::opening::walk_in(header, o.handles, place),
                 place,
             )
         }
@@ -53,10 +53,10 @@ pub fn array_value(f: &[u8], place: usize, k: u32) -> PickedAnswer
     match super::opening::open_within(f, place) {
         OpenedAnswer::Refused(r) => PickedAnswer::Refused(r),
         OpenedAnswer::Got(o) => {
-            let h = o.header;
+            let header = o.header;
             value_bodies::array_value(
-                header::up_to_end(f, h),
-                super::opening::walk_in(h, o.handles, place),
+                header::up_to_end(f, header),
+                super::opening::walk_in(header, o.handles, place),
                 place,
                 k,
             )
@@ -92,10 +92,10 @@ pub fn annotation_body(f: &[u8], place: usize) -> BodyAnswer
     match super::opening::open_within(f, place) {
         OpenedAnswer::Refused(r) => BodyAnswer::Refused(r),
         OpenedAnswer::Got(o) => {
-            let h = o.header;
+            let header = o.header;
             noted_body(
-                header::up_to_end(f, h),
-                super::opening::walk_in(h, o.handles, place),
+                header::up_to_end(f, header),
+                super::opening::walk_in(header, o.handles, place),
                 place,
             )
         }
@@ -109,10 +109,10 @@ pub fn annotation_body_element(f: &[u8], place: usize, k: u32) -> ElementAnswer
     match super::opening::open_within(f, place) {
         OpenedAnswer::Refused(r) => ElementAnswer::Refused(r),
         OpenedAnswer::Got(o) => {
-            let h = o.header;
+            let header = o.header;
             value_bodies::annotation_element(
-                header::up_to_end(f, h),
-                super::opening::walk_in(h, o.handles, place),
+                header::up_to_end(f, header),
+                super::opening::walk_in(header, o.handles, place),
                 place,
                 k,
             )

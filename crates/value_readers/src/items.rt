@@ -14,10 +14,10 @@ pub fn annotation(f: &[u8], place: usize) -> SummaryAnswer
     match super::opening::open_within(f, place) {
         OpenedAnswer::Refused(r) => SummaryAnswer::Refused(r),
         OpenedAnswer::Got(o) => {
-            let h = o.header;
+            let header = o.header;
             annotation_items::annotation(
-                header::up_to_end(f, h),
-                header::frame_of(h, o.handles),
+                header::up_to_end(f, header),
+                header::frame_of(header, o.handles),
                 place,
             )
         }
@@ -31,10 +31,10 @@ pub fn annotation_element(f: &[u8], place: usize, k: u32) -> ElementAnswer
     match super::opening::open_within(f, place) {
         OpenedAnswer::Refused(r) => ElementAnswer::Refused(r),
         OpenedAnswer::Got(o) => {
-            let h = o.header;
+            let header = o.header;
             annotation_items::annotation_element(
-                header::up_to_end(f, h),
-                header::frame_of(h, o.handles),
+                header::up_to_end(f, header),
+                header::frame_of(header, o.handles),
                 place,
                 k,
             )

@@ -13,8 +13,8 @@ pub fn open_within(f: &[u8], place: usize) -> OpenedAnswer
     match table_readers::open(f) {
         OpenedAnswer::Refused(r) => OpenedAnswer::Refused(r),
         OpenedAnswer::Got(o) => {
-            let h = o.header;
-            if frame::is_allowed(h.start, h.end, false, place) {
+            let header = o.header;
+            if frame::is_allowed(header.start, header.end, false, place) {
                 return OpenedAnswer::Got(o);
             }
             OpenedAnswer::Refused(refusal::not_there())

@@ -39,8 +39,8 @@ pub fn static_value_count(f: &[u8], c: u32) -> BodySizeAnswer
     match table_readers::open(f) {
         OpenedAnswer::Refused(r) => BodySizeAnswer::Refused(r),
         OpenedAnswer::Got(o) => {
-            let h = o.header;
-            values_under(f, h, o.handles, c)
+            let header = o.header;
+            values_under(f, header, o.handles, c)
         }
     }
 }
@@ -77,8 +77,8 @@ pub fn static_value(f: &[u8], c: u32, k: u32) -> PickedAnswer
     match table_readers::open(f) {
         OpenedAnswer::Refused(r) => PickedAnswer::Refused(r),
         OpenedAnswer::Got(o) => {
-            let h = o.header;
-            value_under(f, h, o.handles, c, k)
+            let header = o.header;
+            value_under(f, header, o.handles, c, k)
         }
     }
 }

@@ -65,9 +65,9 @@ module _ (f : List ℕ) (header : Header) where
 -- "Header; map; .."
 unfoldable pub fileAt : List ℕ → Outcome File
 fileAt f = do
-  h ← headerAt f
-  m ← mapAt f h
-  tablesAt f h m
+  header ← headerAt f
+  m ← mapAt f header
+  tablesAt f header m
 
 -- the check keeps only that there is an answer: "The first broken rule is answered."
 unfoldable pub checkAt : List ℕ → Outcome Unit

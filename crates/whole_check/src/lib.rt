@@ -22,7 +22,7 @@ fn names_pass(f: &[u8], header: Header) -> CheckAnswer
     match string_ids::check_strings(f, header) {
         CheckAnswer::Refused(r) => CheckAnswer::Refused(r),
         CheckAnswer::Accepted => {
-            match tables::types_pass(f, header::frame_of(header, 0), types.offset, types.count) {
+            match tables::types_pass(f, header::plain_frame(header), types.offset, types.count) {
                 CheckAnswer::Refused(r) => CheckAnswer::Refused(r),
                 CheckAnswer::Accepted => tables::protos_pass(f, header, protos.count),
             }
@@ -38,7 +38,7 @@ fn records_pass(f: &[u8], header: Header) -> CheckAnswer
     let protos = header.protos;
     let fields = header.fields;
     let methods = header.methods;
-    let frame = header::frame_of(header, 0);
+    let frame = header::plain_frame(header);
     match tables::members_pass(f, frame, types.count, fields.offset, fields.count) {
         CheckAnswer::Refused(r) => CheckAnswer::Refused(r),
         CheckAnswer::Accepted => {
@@ -98,7 +98,7 @@ pub fn verdict(f: &[u8]) -> Verdict
 {
     match header::header_of(f) {
         HeaderAnswer::Refused(r) => Verdict::Refused(r),
-        HeaderAnswer::Got(h) => verdict_in(f, h),
+        HeaderAnswer::Got(header) => verdict_in(f, header),
     }
 }
 

@@ -61,7 +61,7 @@ fn proto_pass(f: &[u8], header: Header, n: u32) -> CheckAnswer
     ensures { λ r. ⌜ checked-outcome r ≡ protoPass (now (f .entry)) header n ⌝ }
 {
     let t = header.protos;
-    match ids::proto_at(f, header::frame_of(header, 0), header.end, t.offset, n) {
+    match ids::proto_at(f, header::plain_frame(header), header.end, t.offset, n) {
         ProtoAnswer::Refused(r) => CheckAnswer::Refused(r),
         ProtoAnswer::Got(p) => type_list::check_types(f, header, p.parameters),
     }

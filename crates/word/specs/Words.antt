@@ -15,7 +15,7 @@ u32Of Big a b c d = 16777216 * a + 65536 * b + 256 * c + d
 
 -- the word at a place
 unfoldable pub u16At : Endian → List ℕ → ℕ → ℕ
-u16At o s p = u16Of o (getD s p 0) (getD s (p + 1) 0)
+u16At o slice p = u16Of o (getD slice p 0) (getD slice (p + 1) 0)
 
 unfoldable pub u32At : Endian → List ℕ → ℕ → ℕ
-u32At o s p = u32Of o (getD s p 0) (getD s (p + 1) 0) (getD s (p + 2) 0) (getD s (p + 3) 0)
+u32At o slice p = u32Of o (getD slice p 0) (getD slice (p + 1) 0) (getD slice (p + 2) 0) (getD slice (p + 3) 0)

@@ -13,11 +13,11 @@ pub enum Endian {
 }
 
 // The byte at a place.
-pub fn byte_at(s: &[u8], at: usize) -> u8
-    ensures { λ r. ⌜ r ≡ getD (now (s .entry)) at 0 ⌝ }
+pub fn byte_at(slice: &[u8], at: usize) -> u8
+    ensures { λ r. ⌜ r ≡ getD (now (slice .entry)) at 0 ⌝ }
 {
-    if at < s.len() {
-        return s[at];
+    if at < slice.len() {
+        return slice[at];
     }
     0
 }
@@ -33,17 +33,17 @@ pub fn has_room(len: usize, at: usize, n: usize) -> bool
 }
 
 // The bytes that lie at a place, none where the slice ends before them.
-pub fn bytes_at(s: &[u8], start: usize, length: usize) -> &[u8]
-    ensures { λ r. ⌜ now r ≡ part (now (s .entry)) start length ⌝ }
+pub fn bytes_at(slice: &[u8], start: usize, length: usize) -> &[u8]
+    ensures { λ r. ⌜ now r ≡ part (now (slice .entry)) start length ⌝ }
 {
-    if s.len() < start {
-        return &s[0..0];
+    if slice.len() < start {
+        return &slice[0..0];
     }
-    if s.len() - start < length {
-        return &s[0..0];
+    if slice.len() - start < length {
+        return &slice[0..0];
     }
     let end = start + length;
-    &s[start..end]
+    &slice[start..end]
 }
 
 // Two bytes as one number, the low one first.
@@ -81,62 +81,62 @@ pub fn u32_of(order: Endian, a: u8, b: u8, c: u8, d: u8) -> u32
 }
 
 // The two bytes at a place as one number, each looked for by itself.
-fn u16_by_bytes(s: &[u8], at: usize, order: Endian) -> u16
-    ensures { λ r. ⌜ r ≡ u16At order (now (s .entry)) at ⌝ }
+fn u16_by_bytes(slice: &[u8], at: usize, order: Endian) -> u16
+    ensures { λ r. ⌜ r ≡ u16At order (now (slice .entry)) at ⌝ }
 {
-    if s.len() <= at {
+    if slice.len() <= at {
         return 0;
     }
-    u16_of(order, s[at], byte_at(s, at + 1))
+    u16_of(order, slice[at], byte_at(slice, at + 1))
 }
 
 // The four bytes at a place as one number, each looked for by itself.
-fn u32_by_bytes(s: &[u8], at: usize, order: Endian) -> u32
-    ensures { λ r. ⌜ r ≡ u32At order (now (s .entry)) at ⌝ }
+fn u32_by_bytes(slice: &[u8], at: usize, order: Endian) -> u32
+    ensures { λ r. ⌜ r ≡ u32At order (now (slice .entry)) at ⌝ }
 {
-    if s.len() <= at {
+    if slice.len() <= at {
         return 0;
     }
     u32_of(
         order,
-        s[at],
-        byte_at(s, at + 1),
-        byte_at(s, at + 2),
-        byte_at(s, at + 3),
+        slice[at],
+        byte_at(slice, at + 1),
+        byte_at(slice, at + 2),
+        byte_at(slice, at + 3),
     )
 }
 
 // The two bytes at a place as one number. Most files are little-endian and most words lie inside: there one test serves both bytes and they are
 // one load. The order is asked for before any byte is read, or the compiler does not join the reads.
-pub fn u16_at(s: &[u8], at: usize, order: Endian) -> u16
-    ensures { λ r. ⌜ r ≡ u16At order (now (s .entry)) at ⌝ }
+pub fn u16_at(slice: &[u8], at: usize, order: Endian) -> u16
+    ensures { λ r. ⌜ r ≡ u16At order (now (slice .entry)) at ⌝ }
 {
     match order {
-        Endian::Big => u16_by_bytes(s, at, order),
+        Endian::Big => u16_by_bytes(slice, at, order),
         Endian::Little => {
-            if 2 <= s.len() {
-                if at <= s.len() - 2 {
-                    return u16_low_first(s[at], s[at + 1]);
+            if 2 <= slice.len() {
+                if at <= slice.len() - 2 {
+                    return u16_low_first(slice[at], slice[at + 1]);
                 }
             }
-            u16_by_bytes(s, at, order)
+            u16_by_bytes(slice, at, order)
         }
     }
 }
 
 // The four bytes at a place as one number, as two are.
-pub fn u32_at(s: &[u8], at: usize, order: Endian) -> u32
-    ensures { λ r. ⌜ r ≡ u32At order (now (s .entry)) at ⌝ }
+pub fn u32_at(slice: &[u8], at: usize, order: Endian) -> u32
+    ensures { λ r. ⌜ r ≡ u32At order (now (slice .entry)) at ⌝ }
 {
     match order {
-        Endian::Big => u32_by_bytes(s, at, order),
+        Endian::Big => u32_by_bytes(slice, at, order),
         Endian::Little => {
-            if 4 <= s.len() {
-                if at <= s.len() - 4 {
-                    return u32_low_first(s[at], s[at + 1], s[at + 2], s[at + 3]);
+            if 4 <= slice.len() {
+                if at <= slice.len() - 4 {
+                    return u32_low_first(slice[at], slice[at + 1], slice[at + 2], slice[at + 3]);
                 }
             }
-            u32_by_bytes(s, at, order)
+            u32_by_bytes(slice, at, order)
         }
     }
 }

@@ -5,10 +5,10 @@ use Rattle.class_walk.proofs.check_class.Reads as reads
 use Rattle.class_walk.proofs.check_class.Lts as lts
 use Rattle.class_ids.proofs.class_at.Reads as class-at-reads
 use Rattle.class_walk.proofs.below_pass.Reads as below-pass-reads
-use Rattle.header.proofs.frame_of.Reads as frame-of-reads
+use Rattle.header.proofs.plain_frame.Reads as plain-frame-reads
 
-frame-of-requires : tie.Need-frame-of-requires
-frame-of-requires c κs = search laws depth 7
+plain-frame-requires : tie.Need-plain-frame-requires
+plain-frame-requires c κs = search laws depth 7
 
 class-at-requires : tie.Need-class-at-requires
 class-at-requires c κs = search laws depth 7
@@ -32,7 +32,7 @@ pub check-class-spec : {M : Type 1} → statement M
 check-class-spec =
     tie.close
     (tie.spec
-    frame-of-requires
+    plain-frame-requires
     class-at-requires
     enum-known-r
     enum-known-c

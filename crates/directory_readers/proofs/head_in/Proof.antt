@@ -5,14 +5,14 @@ use Rattle.directory_readers.proofs.head_in.Tie as tie
 use Rattle.directory_readers.proofs.head_in.Reads as reads
 use Rattle.directory_readers.proofs.head_in.Lts as lts
 use Rattle.annotation_directories.proofs.directory.Reads as directory-reads
-use Rattle.header.proofs.frame_of.Reads as frame-of-reads
+use Rattle.header.proofs.plain_frame.Reads as plain-frame-reads
 use Rattle.header.proofs.up_to_end.Reads as up-to-end-reads
 
 up-to-end-requires : tie.Need-up-to-end-requires
 up-to-end-requires c κs = search laws
 
-frame-of-requires : tie.Need-frame-of-requires
-frame-of-requires c κs = search laws
+plain-frame-requires : tie.Need-plain-frame-requires
+plain-frame-requires c κs = search laws
 
 directory-requires : tie.Need-directory-requires
 directory-requires c κs = search laws
@@ -40,7 +40,7 @@ head-in-spec =
     tie.close
     (tie.spec
     up-to-end-requires
-    frame-of-requires
+    plain-frame-requires
     directory-requires
     enum-known-r
     enum-known-head

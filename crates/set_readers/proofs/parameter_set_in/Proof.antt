@@ -5,14 +5,14 @@ use Rattle.set_readers.proofs.parameter_set_in.Tie as tie
 use Rattle.set_readers.proofs.parameter_set_in.Reads as reads
 use Rattle.set_readers.proofs.parameter_set_in.Lts as lts
 use Rattle.annotation_lists.proofs.reference_offset.Reads as reference-offset-reads
-use Rattle.header.proofs.frame_of.Reads as frame-of-reads
+use Rattle.header.proofs.plain_frame.Reads as plain-frame-reads
 use Rattle.header.proofs.up_to_end.Reads as up-to-end-reads
 
 up-to-end-requires : tie.Need-up-to-end-requires
 up-to-end-requires c κs = search laws
 
-frame-of-requires : tie.Need-frame-of-requires
-frame-of-requires c κs = search laws
+plain-frame-requires : tie.Need-plain-frame-requires
+plain-frame-requires c κs = search laws
 
 reference-offset-requires : tie.Need-reference-offset-requires
 reference-offset-requires c κs = search laws
@@ -36,7 +36,7 @@ parameter-set-in-spec =
     tie.close
     (tie.spec
     up-to-end-requires
-    frame-of-requires
+    plain-frame-requires
     reference-offset-requires
     enum-known-r
     enum-known-place

@@ -5,14 +5,14 @@ use Rattle.set_readers.proofs.references_in.Tie as tie
 use Rattle.set_readers.proofs.references_in.Reads as reads
 use Rattle.set_readers.proofs.references_in.Lts as lts
 use Rattle.annotation_lists.proofs.reference_count.Reads as reference-count-reads
-use Rattle.header.proofs.frame_of.Reads as frame-of-reads
+use Rattle.header.proofs.plain_frame.Reads as plain-frame-reads
 use Rattle.header.proofs.up_to_end.Reads as up-to-end-reads
 
 up-to-end-requires : tie.Need-up-to-end-requires
 up-to-end-requires c κs = search laws
 
-frame-of-requires : tie.Need-frame-of-requires
-frame-of-requires c κs = search laws
+plain-frame-requires : tie.Need-plain-frame-requires
+plain-frame-requires c κs = search laws
 
 reference-count-requires : tie.Need-reference-count-requires
 reference-count-requires c κs = search laws
@@ -23,4 +23,4 @@ returns c = search laws
 
 pub references-in-spec : {M : Type 1} → statement M
 references-in-spec =
-    tie.close (tie.spec up-to-end-requires frame-of-requires reference-count-requires returns)
+    tie.close (tie.spec up-to-end-requires plain-frame-requires reference-count-requires returns)

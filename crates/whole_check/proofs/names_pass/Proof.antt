@@ -4,7 +4,7 @@ use Rattle.whole_check.proofs.names_pass.Statement.{statement}
 use Rattle.whole_check.proofs.names_pass.Tie as tie
 use Rattle.whole_check.proofs.names_pass.Reads as reads
 use Rattle.whole_check.proofs.names_pass.Lts as lts
-use Rattle.header.proofs.frame_of.Reads as frame-of-reads
+use Rattle.header.proofs.plain_frame.Reads as plain-frame-reads
 use Rattle.string_ids.proofs.check_strings.Reads as check-strings-reads
 use Rattle.whole_check.proofs.tables.protos_pass.Reads as protos-pass-reads
 use Rattle.whole_check.proofs.tables.types_pass.Reads as types-pass-reads
@@ -18,8 +18,8 @@ enum-known-r c = search laws depth 8
 enum-told : tie.Need-enum-told
 enum-told c = search laws depth 8
 
-frame-of-requires : tie.Need-frame-of-requires
-frame-of-requires c κs = search laws depth 8
+plain-frame-requires : tie.Need-plain-frame-requires
+plain-frame-requires c κs = search laws depth 8
 
 types-pass-requires : tie.Need-types-pass-requires
 types-pass-requires c κs = search laws depth 8
@@ -52,7 +52,7 @@ names-pass-spec =
     check-strings-requires
     enum-known-r
     enum-told
-    frame-of-requires
+    plain-frame-requires
     types-pass-requires
     enum-known-r-2
     enum-told-2

@@ -4,11 +4,11 @@ use Rattle.whole_check.proofs.records_pass.Statement.{statement}
 use Rattle.whole_check.proofs.records_pass.Tie as tie
 use Rattle.whole_check.proofs.records_pass.Reads as reads
 use Rattle.whole_check.proofs.records_pass.Lts as lts
-use Rattle.header.proofs.frame_of.Reads as frame-of-reads
+use Rattle.header.proofs.plain_frame.Reads as plain-frame-reads
 use Rattle.whole_check.proofs.tables.members_pass.Reads as members-pass-reads
 
-frame-of-requires : tie.Need-frame-of-requires
-frame-of-requires c κs = search laws depth 8
+plain-frame-requires : tie.Need-plain-frame-requires
+plain-frame-requires c κs = search laws depth 8
 
 members-pass-requires : tie.Need-members-pass-requires
 members-pass-requires c κs = search laws depth 8
@@ -34,7 +34,7 @@ pub records-pass-spec : {M : Type 1} → statement M
 records-pass-spec =
     tie.close
     (tie.spec
-    frame-of-requires
+    plain-frame-requires
     members-pass-requires
     enum-known-r
     enum-told

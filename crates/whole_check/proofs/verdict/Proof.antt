@@ -12,8 +12,8 @@ header-of-requires c κs = search laws depth 8
 enum-known-r : tie.Need-enum-known-r
 enum-known-r c = search laws depth 8
 
-enum-known-h : tie.Need-enum-known-h
-enum-known-h c = search laws depth 8
+enum-known-header : tie.Need-enum-known-header
+enum-known-header c = search laws depth 8
 
 verdict-in-requires : tie.Need-verdict-in-requires
 verdict-in-requires c κs = search laws depth 8
@@ -27,4 +27,4 @@ returns-2 c = search laws depth 8
 pub verdict-spec : {M : Type 1} → statement M
 verdict-spec =
     tie.close
-    (tie.spec header-of-requires enum-known-r enum-known-h verdict-in-requires returns returns-2)
+    (tie.spec header-of-requires enum-known-r enum-known-header verdict-in-requires returns returns-2)

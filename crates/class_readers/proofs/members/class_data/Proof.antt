@@ -16,8 +16,8 @@ enum-known-r c = search laws
 enum-told : tie.Need-enum-told
 enum-told c = search laws
 
-enum-known-s : tie.Need-enum-known-s
-enum-known-s c = search laws
+enum-known-spot : tie.Need-enum-known-spot
+enum-known-spot c = search laws
 
 counts-under-requires : tie.Need-counts-under-requires
 counts-under-requires c κs = search laws
@@ -35,4 +35,4 @@ unfolding classData
 returns-3 c = search laws
 
 pub class-data-spec : {M : Type 1} → statement M
-class-data-spec = tie.close (tie.spec data-spot-requires enum-known-r enum-told enum-known-s counts-under-requires returns returns-2 returns-3)
+class-data-spec = tie.close (tie.spec data-spot-requires enum-known-r enum-told enum-known-spot counts-under-requires returns returns-2 returns-3)

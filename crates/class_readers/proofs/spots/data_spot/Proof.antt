@@ -13,8 +13,8 @@ header-of-requires c κs = search laws
 enum-known-r : tie.Need-enum-known-r
 enum-known-r c = search laws
 
-enum-known-h : tie.Need-enum-known-h
-enum-known-h c = search laws
+enum-known-header : tie.Need-enum-known-header
+enum-known-header c = search laws
 
 data-in-requires : tie.Need-data-in-requires
 data-in-requires c κs = search laws
@@ -28,4 +28,4 @@ unfolding dataSpot
 returns-2 c = search laws
 
 pub data-spot-spec : {M : Type 1} → statement M
-data-spot-spec = tie.close (tie.spec header-of-requires enum-known-r enum-known-h data-in-requires returns returns-2)
+data-spot-spec = tie.close (tie.spec header-of-requires enum-known-r enum-known-header data-in-requires returns returns-2)

@@ -16,8 +16,8 @@ enum-known-r c = search laws
 enum-told : tie.Need-enum-told
 enum-told c = search laws
 
-enum-known-s : tie.Need-enum-known-s
-enum-known-s c = search laws
+enum-known-spot : tie.Need-enum-known-spot
+enum-known-spot c = search laws
 
 debug-under-requires : tie.Need-debug-under-requires
 debug-under-requires c κs = search laws
@@ -35,4 +35,4 @@ unfolding debugSpot
 returns-3 c = search laws
 
 pub debug-spot-spec : {M : Type 1} → statement M
-debug-spot-spec = tie.close (tie.spec method-spot-requires enum-known-r enum-told enum-known-s debug-under-requires returns returns-2 returns-3)
+debug-spot-spec = tie.close (tie.spec method-spot-requires enum-known-r enum-told enum-known-spot debug-under-requires returns returns-2 returns-3)

@@ -5,15 +5,15 @@ use Rattle.class_readers.proofs.spots.debug_under.Tie as tie
 use Rattle.class_readers.proofs.spots.debug_under.Reads as reads
 use Rattle.class_readers.proofs.spots.debug_under.Lts as lts
 use Rattle.header.proofs.up_to_end.Reads as up-to-end-reads
-use Rattle.header.proofs.frame_of.Reads as frame-of-reads
+use Rattle.header.proofs.plain_frame.Reads as plain-frame-reads
 use Rattle.code_item.proofs.code_at.Reads as code-at-reads
 use Rattle.class_readers.proofs.spots.spot_of.Reads as spot-of-reads
 
 up-to-end-requires : tie.Need-up-to-end-requires
 up-to-end-requires c κs = search laws
 
-frame-of-requires : tie.Need-frame-of-requires
-frame-of-requires c κs = search laws
+plain-frame-requires : tie.Need-plain-frame-requires
+plain-frame-requires c κs = search laws
 
 cast-code-at : tie.Need-cast-code-at
 cast-code-at c = search laws
@@ -39,4 +39,4 @@ unfolding debugUnder
 returns-2 c = search laws
 
 pub debug-under-spec : {M : Type 1} → statement M
-debug-under-spec = tie.close (tie.spec up-to-end-requires frame-of-requires cast-code-at code-at-requires enum-known-r enum-known-o spot-of-requires returns returns-2)
+debug-under-spec = tie.close (tie.spec up-to-end-requires plain-frame-requires cast-code-at code-at-requires enum-known-r enum-known-o spot-of-requires returns returns-2)

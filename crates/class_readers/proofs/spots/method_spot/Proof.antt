@@ -16,8 +16,8 @@ enum-known-r c = search laws
 enum-told : tie.Need-enum-told
 enum-told c = search laws
 
-enum-known-s : tie.Need-enum-known-s
-enum-known-s c = search laws
+enum-known-spot : tie.Need-enum-known-spot
+enum-known-spot c = search laws
 
 method-under-requires : tie.Need-method-under-requires
 method-under-requires c κs = search laws
@@ -35,4 +35,4 @@ unfolding methodSpot
 returns-3 c = search laws
 
 pub method-spot-spec : {M : Type 1} → statement M
-method-spot-spec = tie.close (tie.spec data-spot-requires enum-known-r enum-told enum-known-s method-under-requires returns returns-2 returns-3)
+method-spot-spec = tie.close (tie.spec data-spot-requires enum-known-r enum-told enum-known-spot method-under-requires returns returns-2 returns-3)

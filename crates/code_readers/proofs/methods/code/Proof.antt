@@ -16,8 +16,8 @@ enum-known-r c = search laws
 enum-told : tie.Need-enum-told
 enum-told c = search laws
 
-enum-known-s : tie.Need-enum-known-s
-enum-known-s c = search laws
+enum-known-spot : tie.Need-enum-known-spot
+enum-known-spot c = search laws
 
 outline-under-requires : tie.Need-outline-under-requires
 outline-under-requires c κs = search laws
@@ -35,4 +35,4 @@ unfolding methodCode
 returns-3 c = search laws
 
 pub code-spec : {M : Type 1} → statement M
-code-spec = tie.close (tie.spec method-spot-requires enum-known-r enum-told enum-known-s outline-under-requires returns returns-2 returns-3)
+code-spec = tie.close (tie.spec method-spot-requires enum-known-r enum-told enum-known-spot outline-under-requires returns returns-2 returns-3)

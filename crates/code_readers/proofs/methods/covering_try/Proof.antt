@@ -16,8 +16,8 @@ enum-known-r c = search laws
 enum-told : tie.Need-enum-told
 enum-told c = search laws
 
-enum-known-s : tie.Need-enum-known-s
-enum-known-s c = search laws
+enum-known-spot : tie.Need-enum-known-spot
+enum-known-spot c = search laws
 
 cover-under-requires : tie.Need-cover-under-requires
 cover-under-requires c κs = search laws
@@ -35,4 +35,4 @@ unfolding coveringTry
 returns-3 c = search laws
 
 pub covering-try-spec : {M : Type 1} → statement M
-covering-try-spec = tie.close (tie.spec method-spot-requires enum-known-r enum-told enum-known-s cover-under-requires returns returns-2 returns-3)
+covering-try-spec = tie.close (tie.spec method-spot-requires enum-known-r enum-told enum-known-spot cover-under-requires returns returns-2 returns-3)

@@ -16,8 +16,8 @@ enum-known-r c = search laws
 enum-told : tie.Need-enum-told
 enum-told c = search laws
 
-enum-known-s : tie.Need-enum-known-s
-enum-known-s c = search laws
+enum-known-spot : tie.Need-enum-known-spot
+enum-known-spot c = search laws
 
 pair-under-requires : tie.Need-pair-under-requires
 pair-under-requires c κs = search laws
@@ -35,4 +35,4 @@ unfolding handlerPair
 returns-3 c = search laws
 
 pub handler-pair-spec : {M : Type 1} → statement M
-handler-pair-spec = tie.close (tie.spec method-spot-requires enum-known-r enum-told enum-known-s pair-under-requires returns returns-2 returns-3)
+handler-pair-spec = tie.close (tie.spec method-spot-requires enum-known-r enum-told enum-known-spot pair-under-requires returns returns-2 returns-3)

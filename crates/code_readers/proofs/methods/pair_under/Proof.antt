@@ -5,14 +5,14 @@ use Rattle.code_readers.proofs.methods.pair_under.Tie as tie
 use Rattle.code_readers.proofs.methods.pair_under.Reads as reads
 use Rattle.code_readers.proofs.methods.pair_under.Lts as lts
 use Rattle.header.proofs.up_to_end.Reads as up-to-end-reads
-use Rattle.header.proofs.frame_of.Reads as frame-of-reads
+use Rattle.header.proofs.plain_frame.Reads as plain-frame-reads
 use Rattle.code_item.proofs.pair_at.Reads as pair-at-reads
 
 up-to-end-requires : tie.Need-up-to-end-requires
 up-to-end-requires c κs = search laws
 
-frame-of-requires : tie.Need-frame-of-requires
-frame-of-requires c κs = search laws
+plain-frame-requires : tie.Need-plain-frame-requires
+plain-frame-requires c κs = search laws
 
 cast-pair-at : tie.Need-cast-pair-at
 cast-pair-at c = search laws
@@ -35,4 +35,4 @@ unfolding pairUnder
 returns-2 c = search laws
 
 pub pair-under-spec : {M : Type 1} → statement M
-pair-under-spec = tie.close (tie.spec up-to-end-requires frame-of-requires cast-pair-at pair-at-requires enum-known-r enum-known-pair returns returns-2)
+pair-under-spec = tie.close (tie.spec up-to-end-requires plain-frame-requires cast-pair-at pair-at-requires enum-known-r enum-known-pair returns returns-2)

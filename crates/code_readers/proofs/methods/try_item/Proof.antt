@@ -16,8 +16,8 @@ enum-known-r c = search laws
 enum-told : tie.Need-enum-told
 enum-told c = search laws
 
-enum-known-s : tie.Need-enum-known-s
-enum-known-s c = search laws
+enum-known-spot : tie.Need-enum-known-spot
+enum-known-spot c = search laws
 
 try-under-requires : tie.Need-try-under-requires
 try-under-requires c κs = search laws
@@ -35,4 +35,4 @@ unfolding tryNumber
 returns-3 c = search laws
 
 pub try-item-spec : {M : Type 1} → statement M
-try-item-spec = tie.close (tie.spec method-spot-requires enum-known-r enum-told enum-known-s try-under-requires returns returns-2 returns-3)
+try-item-spec = tie.close (tie.spec method-spot-requires enum-known-r enum-told enum-known-spot try-under-requires returns returns-2 returns-3)

@@ -16,8 +16,8 @@ enum-known-r c = search laws
 enum-told : tie.Need-enum-told
 enum-told c = search laws
 
-enum-known-s : tie.Need-enum-known-s
-enum-known-s c = search laws
+enum-known-spot : tie.Need-enum-known-spot
+enum-known-spot c = search laws
 
 units-under-requires : tie.Need-units-under-requires
 units-under-requires c κs = search laws
@@ -38,4 +38,4 @@ unfolding methodUnits
 returns-3 c = search laws
 
 pub units-spec : {M : Type 1} → statement M
-units-spec = tie.close (tie.spec method-spot-requires enum-known-r enum-told enum-known-s units-under-requires returns returns-2 same-length returns-3)
+units-spec = tie.close (tie.spec method-spot-requires enum-known-r enum-told enum-known-spot units-under-requires returns returns-2 same-length returns-3)

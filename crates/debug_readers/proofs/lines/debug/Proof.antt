@@ -16,8 +16,8 @@ enum-known-r c = search laws
 enum-told : tie.Need-enum-told
 enum-told c = search laws
 
-enum-known-s : tie.Need-enum-known-s
-enum-known-s c = search laws
+enum-known-spot : tie.Need-enum-known-spot
+enum-known-spot c = search laws
 
 extent-under-requires : tie.Need-extent-under-requires
 extent-under-requires c κs = search laws
@@ -35,4 +35,4 @@ unfolding methodDebug
 returns-3 c = search laws
 
 pub debug-spec : {M : Type 1} → statement M
-debug-spec = tie.close (tie.spec debug-spot-requires enum-known-r enum-told enum-known-s extent-under-requires returns returns-2 returns-3)
+debug-spec = tie.close (tie.spec debug-spot-requires enum-known-r enum-told enum-known-spot extent-under-requires returns returns-2 returns-3)

@@ -13,8 +13,8 @@ header-of-requires c κs = search laws depth 7
 enum-known-r : tie.Need-enum-known-r
 enum-known-r c = search laws depth 7
 
-enum-known-h : tie.Need-enum-known-h
-enum-known-h c = search laws depth 7
+enum-known-header : tie.Need-enum-known-header
+enum-known-header c = search laws depth 7
 
 map-of-requires : tie.Need-map-of-requires
 map-of-requires c κs = search laws depth 7
@@ -43,7 +43,7 @@ handle-count-spec =
     (tie.spec
     header-of-requires
     enum-known-r
-    enum-known-h
+    enum-known-header
     map-of-requires
     enum-known-r-2
     enum-known-m

@@ -13,8 +13,8 @@ header-of-requires c κs = search laws
 enum-known-r : tie.Need-enum-known-r
 enum-known-r c = search laws
 
-enum-known-h : tie.Need-enum-known-h
-enum-known-h c = search laws
+enum-known-header : tie.Need-enum-known-header
+enum-known-header c = search laws
 
 mapped-requires : tie.Need-mapped-requires
 mapped-requires c κs = search laws
@@ -30,4 +30,4 @@ returns-2 c = search laws
 pub open-spec : {M : Type 1} → statement M
 open-spec =
     tie.close
-    (tie.spec header-of-requires enum-known-r enum-known-h mapped-requires returns returns-2)
+    (tie.spec header-of-requires enum-known-r enum-known-header mapped-requires returns returns-2)

@@ -13,8 +13,8 @@ header-of-requires c κs = search laws
 enum-known-r : tie.Need-enum-known-r
 enum-known-r c = search laws
 
-enum-known-h : tie.Need-enum-known-h
-enum-known-h c = search laws
+enum-known-header : tie.Need-enum-known-header
+enum-known-header c = search laws
 
 interfaces-in-requires : tie.Need-interfaces-in-requires
 interfaces-in-requires c κs = search laws
@@ -33,7 +33,7 @@ interface-count-spec =
     (tie.spec
     header-of-requires
     enum-known-r
-    enum-known-h
+    enum-known-header
     interfaces-in-requires
     returns
     returns-2)

@@ -12,8 +12,8 @@ header-of-requires c κs = search laws
 enum-known-r : tie.Need-enum-known-r
 enum-known-r c = search laws
 
-enum-known-h : tie.Need-enum-known-h
-enum-known-h c = search laws
+enum-known-header : tie.Need-enum-known-header
+enum-known-header c = search laws
 
 string-in-requires : tie.Need-string-in-requires
 string-in-requires c κs = search laws
@@ -27,4 +27,4 @@ returns-2 c = search laws
 pub string-spec : {M : Type 1} → statement M
 string-spec =
     tie.close
-    (tie.spec header-of-requires enum-known-r enum-known-h string-in-requires returns returns-2)
+    (tie.spec header-of-requires enum-known-r enum-known-header string-in-requires returns returns-2)

@@ -13,8 +13,8 @@ header-of-requires c κs = search laws
 enum-known-r : tie.Need-enum-known-r
 enum-known-r c = search laws
 
-enum-known-h : tie.Need-enum-known-h
-enum-known-h c = search laws
+enum-known-header : tie.Need-enum-known-header
+enum-known-header c = search laws
 
 handle-in-requires : tie.Need-handle-in-requires
 handle-in-requires c κs = search laws
@@ -30,4 +30,4 @@ returns-2 c = search laws
 pub handle-spec : {M : Type 1} → statement M
 handle-spec =
     tie.close
-    (tie.spec header-of-requires enum-known-r enum-known-h handle-in-requires returns returns-2)
+    (tie.spec header-of-requires enum-known-r enum-known-header handle-in-requires returns returns-2)

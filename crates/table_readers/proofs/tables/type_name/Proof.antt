@@ -13,8 +13,8 @@ header-of-requires c κs = search laws
 enum-known-r : tie.Need-enum-known-r
 enum-known-r c = search laws
 
-enum-known-h : tie.Need-enum-known-h
-enum-known-h c = search laws
+enum-known-header : tie.Need-enum-known-header
+enum-known-header c = search laws
 
 type-in-requires : tie.Need-type-in-requires
 type-in-requires c κs = search laws
@@ -30,4 +30,4 @@ returns-2 c = search laws
 pub type-name-spec : {M : Type 1} → statement M
 type-name-spec =
     tie.close
-    (tie.spec header-of-requires enum-known-r enum-known-h type-in-requires returns returns-2)
+    (tie.spec header-of-requires enum-known-r enum-known-header type-in-requires returns returns-2)

@@ -4,11 +4,11 @@ use Rattle.whole_check.proofs.tables.proto_pass.Tie as tie
 use Rattle.whole_check.proofs.tables.proto_pass.Reads as reads
 use Rattle.whole_check.proofs.tables.proto_pass.Lts as lts
 use Rattle.type_list.proofs.check_types.Reads as check-types-reads
-use Rattle.header.proofs.frame_of.Reads as frame-of-reads
+use Rattle.header.proofs.plain_frame.Reads as plain-frame-reads
 use Rattle.ids.proofs.proto_at.Reads as proto-at-reads
 
-frame-of-requires : tie.Need-frame-of-requires
-frame-of-requires c κs = search laws depth 7
+plain-frame-requires : tie.Need-plain-frame-requires
+plain-frame-requires c κs = search laws depth 7
 
 proto-at-requires : tie.Need-proto-at-requires
 proto-at-requires c κs = search laws depth 7
@@ -32,7 +32,7 @@ pub proto-pass-spec : {M : Type 1} → statement M
 proto-pass-spec =
     tie.close
     (tie.spec
-    frame-of-requires
+    plain-frame-requires
     proto-at-requires
     enum-known-r
     enum-known-p
