@@ -137,7 +137,7 @@ fn pair_at(s: &[u8], item: usize, at: usize) -> TwoNumbersAnswer
 }
 
 // The four counts.
-fn counts_at(s: &[u8], item: usize) -> CountsAnswer
+pub fn counts_at(s: &[u8], item: usize) -> CountsAnswer
     ensures { λ r. ⌜ counts-outcome r ≡ countsAt (now (s .entry)) item ⌝ }
 {
     match pair_at(s, item, item) {

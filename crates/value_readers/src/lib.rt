@@ -15,6 +15,8 @@ pub use items::annotation;
 pub use items::annotation_element;
 pub use statics::static_value;
 pub use statics::static_value_count;
+pub use statics::value_in;
+pub use statics::values_in;
 
 // How many values an array has, and its length in bytes.
 pub enum ArrayAnswer {

@@ -9,7 +9,7 @@ ghost use Rattle.value_bodies.specs.Answers.{count-outcome, picked-outcome};
 ghost use Rattle.value_readers.specs.Statics.{valuesIn, valuesUnder, staticCount, valueIn, valueUnder, staticValue};
 
 // How many values the array of a class has, 0 where it is absent.
-fn values_in(f: &[u8], header: Header, handles: u32, at: u32) -> BodySizeAnswer
+pub fn values_in(f: &[u8], header: Header, handles: u32, at: u32) -> BodySizeAnswer
     ensures { λ r. ⌜ count-outcome r ≡ valuesIn (now (f .entry)) header handles at ⌝ }
 {
     let place = at as usize;
@@ -46,7 +46,7 @@ pub fn static_value_count(f: &[u8], c: u32) -> BodySizeAnswer
 }
 
 // Value k of the array of a class.
-fn value_in(f: &[u8], header: Header, handles: u32, at: u32, k: u32) -> PickedAnswer
+pub fn value_in(f: &[u8], header: Header, handles: u32, at: u32, k: u32) -> PickedAnswer
     ensures { λ r. ⌜ picked-outcome r ≡ valueIn (now (f .entry)) header handles at k ⌝ }
 {
     let place = at as usize;

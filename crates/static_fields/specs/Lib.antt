@@ -1,0 +1,4 @@
+pub mod Pairing
+pub mod Rules
+pub mod Answers
+pub mod Stages
