@@ -82,3 +82,7 @@ no-room = record { number = 19; place = 0 }
 -- "20: program only: input over 65,536 bytes"
 abbrev pub input-too-long : Refusal
 input-too-long = record { number = 20; place = 0 }
+
+-- request 1: "the list may not be longer than the static fields; such a file is now refused with a new number 21 at the class record"
+abbrev pub too-many-values : ℕ → Refusal
+too-many-values holder = record { number = 21; place = holder }
