@@ -129,6 +129,9 @@ class Dex:
                 last = m[0]
         return self.add(out)
 
+    def statics(self, n):
+        return self.class_data([(k, 0) for k in range(n)], (), (), ())
+
     def record(self, kind, flags=1, superclass=NONE, interfaces=0, source=NONE, directory=0, data=0, values=0):
         self.classes.append((T[kind], flags, superclass, interfaces, source, directory, data, values))
 
@@ -176,7 +179,8 @@ def everything(order, version=b'039', handles=((4, 0), (0, 1), (8, 3)), plain=Fa
     plain = d.code((0x000e, 0x0000), debug=d.debug(0, (), ()))
     statics = ((0, 0x9), (1, 0x9), (2, 0x19), (5, 0x49))
     data = d.class_data(statics[:2] if plain else statics, ((3, 0x80), (4, 0x82)), ((0, 0x10001, plain), (3, 0x20001, odd)), ((1, 0x1, odd), (2, 0x5c1, 0)))
-    d.record('LA;', 0x3ffff, T['LB;'], d.list('LB;', 'LC;'), S['A'], directory, data, d.add(uleb(len(values)) + b''.join(values)))
+    # no more static values than static fields: all of them in one
+    d.record('LA;', 0x3ffff, T['LB;'], d.list('LB;', 'LC;'), S['A'], directory, data, d.add(uleb(2) + array(*values) + b'\x1e'))
     d.record('LB;', 0x200, data=d.class_data((), (), (), ()), directory=d.add(d.words(0, 0, 0, 0), 4))
     d.record('LC;', 0)
     return d
@@ -194,7 +198,7 @@ def cases(order):
     yield 'everything-035', everything(order, b'035', ()).bytes()
     # line 7: a handle's number beyond the methods
     d = Dex(order, b'039', [(0, k) for k in range(6)])
-    d.record('LA;', values=d.add(uleb(2) + value(0x16, 3, 1) + value(0x16, 5, 1)))
+    d.record('LA;', values=d.add(uleb(2) + value(0x16, 3, 1) + value(0x16, 5, 1)), data=d.statics(2))
     yield 'handle-beyond', d.bytes()
     # line 8: a try far on
     d = Dex(order, b'035')
@@ -219,7 +223,7 @@ def cases(order):
     deep = b'\x1e'
     for _ in range(63):
         deep = array(deep)
-    d.record('LA;', values=d.add(uleb(1) + deep))
+    d.record('LA;', values=d.add(uleb(1) + deep), data=d.statics(1))
     yield 'depth-64', d.bytes()
     # no class at all
     yield 'no-class', Dex(order, b'035', classes=0).bytes()
@@ -232,7 +236,7 @@ def lines():
 
     def valued(*values, version=b'035', handles=()):
         d = Dex(o, version, handles)
-        d.record('LA;', values=d.add(uleb(len(values)) + b''.join(values)))
+        d.record('LA;', values=d.add(uleb(len(values)) + b''.join(values)), data=d.statics(len(values)))
         return d.bytes(), d.start
 
     def of(line, name, made, ours, theirs):
@@ -322,6 +326,9 @@ def lines():
     d = Dex(o, b'038', ((9, 0),), classes=0)
     yield of(21, 'a handle of kind 9', d.bytes(), f'18 {d.places[5]}', ok)
     yield of(21, 'a handle of a field that is not there', (lambda d: d.bytes())(Dex(o, b'038', ((0, 99),), classes=0)), f'11 {d.places[5]}', ok)
+    d = Dex(o, b'035')
+    d.record('LA;', values=d.add(uleb(1) + b'\x1e'))
+    yield of(22, 'a static value without a static field', d.bytes(), f'21 {d.places[6]}', '"static_values":["null_value"]')
 
 
 # ---- the other byte order

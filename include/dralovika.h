@@ -115,7 +115,8 @@ enum dralovika_refusal {
     DRALOVIKA_REFUSAL_CODE = 17,       /* a code item breaks a rule */
     DRALOVIKA_REFUSAL_VISIBILITY = 18, /* a visibility is over 2, or a method handle's type over 8 */
     DRALOVIKA_REFUSAL_ROOM = 19,       /* a lent output is shorter than the whole answer */
-    DRALOVIKA_REFUSAL_INPUT = 20       /* the program dexcheck alone: the input has over 65,536 bytes. No function here answers it */
+    DRALOVIKA_REFUSAL_INPUT = 20,      /* the program dexcheck alone: the input has over 65,536 bytes. No function here answers it */
+    DRALOVIKA_REFUSAL_VALUES = 21      /* a class has more static values than static fields; the place is the class record */
 };
 
 /* ---- The whole file */

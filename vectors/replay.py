@@ -98,7 +98,7 @@ class Built:
             'code': lambda: self.code(),
             'plain': lambda: half(1, 1, 0, 0) + w(0, 1) + half(0x000e),
             'debug': lambda: bytes([7, 2, 0, 6, 0x0e, 0x01, 0]),
-            'static': lambda: bytes([2, 0x1c, 1, 0x1e, 0x19, 1]),
+            'static': lambda: bytes([1, 0x1c, 2, 0x1e, 0x19, 1]),
         }[name]()
 
     def code(self, units=(1, 2, 3), tries=((0, 1, 1), (1, 2, 5)), handlers=bytes([2, 0x7f, 0, 1, 2, 1, 2, 0]), debug=None, count=None):
@@ -217,6 +217,18 @@ def cases(o):
     yield '17 no handlers', item('code', lambda s: s.code(handlers=b'\0')), 17, 'code'
     yield '18 visibility', item('annotation', bytes([3, 0, 0])), 18, 'annotation'
     yield '18 handle', record('handles', 1, half(9, 0, 0, 0)), 18, 'handles1'
+    # ---- 21: no more values than static fields, after the values' own rules and before the next class
+    two = lambda s: bytes([2, 0, 0, 0, 0, 9, 1, 9])
+    bare = lambda s: w(1, 1, NONE, 0, NONE, 0, 0, s.at('static'))
+    yield '21 values', item('static', bytes([2, 0x1e, 0x1e])), 21, 'classes0'
+    yield 'two values of two fields', b(items={'data': two, 'static': bytes([2, 0x1e, 0x1e])}), None, None
+    yield 'one value of two fields', b(items={'data': two, 'static': bytes([1, 0x1e])}), None, None
+    yield '21 third value', b(items={'data': two, 'static': bytes([3, 0x1e, 0x1e, 0x1e])}), 21, 'classes0'
+    yield '21 no class data', record('classes', 1, bare), 21, 'classes1'
+    yield 'no value without class data', b(items={'static': b'\0'}, tables={'classes': {1: bare}}), None, None
+    yield '12 before 21', item('static', bytes([3, 0x1e, 0x1e, 0x01, 0])), 12, 'static'
+    yield '21 before the next class', b(items={'static': bytes([2, 0x1e, 0x1e])}, tables={'classes': {1: w(NONE, 1, NONE, 0, NONE, 0, 0, 0)}}), 21, 'classes0'
+    yield '17 before 21', b(items={'static': bytes([2, 0x1e, 0x1e]), 'code': lambda s: s.code(handlers=b'\0')}), 17, 'code'
 
 
 def patched(built, place, data):

@@ -69,9 +69,12 @@ class Item:
             rule(code not in INDEX or number < self.file.counts[INDEX[code]], 11, self.place)
 
     def array(self, depth):
+        """How many values there are."""
         rule(depth <= 64, 13, self.place)
-        for _ in range(self.uleb()):
+        size = self.uleb()
+        for _ in range(size):
             self.value(depth)
+        return size
 
     def annotation(self, depth):
         rule(depth <= 64, 13, self.place)
@@ -163,13 +166,13 @@ class File:
         self.types_at(interfaces)
         if directory:
             self.directory(directory)
-        if data:
-            for code in self.class_data(data):
-                debug = self.code(code)
-                if debug:
-                    self.debug(debug)
-        if values:
-            Item(self, values).array(1)
+        statics, codes = self.class_data(data) if data else (0, [])
+        for code in codes:
+            debug = self.code(code)
+            if debug:
+                self.debug(debug)
+        stored = Item(self, values).array(1) if values else 0
+        rule(stored <= statics, 21, place)
 
     # ---- annotations
     def directory(self, place):
@@ -201,6 +204,7 @@ class File:
 
     # ---- class data, code, debug information
     def class_data(self, place):
+        """How many static fields there are, and where the code is."""
         item = Item(self, place)
         counts, codes = [item.uleb() for _ in range(4)], []
         for n, kind in zip(counts, ('fields', 'fields', 'methods', 'methods')):
@@ -213,7 +217,7 @@ class File:
                 item.uleb()
                 if kind == 'methods':
                     codes.append(item.offset(item.uleb(), four=True, absent=True))
-        return [c for c in codes if c]
+        return counts[0], [c for c in codes if c]
 
     def code(self, place):
         item = Item(self, place)

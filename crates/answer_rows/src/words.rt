@@ -74,7 +74,7 @@ pub fn four(w: u64, x: u64, y: u64, z: u64) -> [u64; 20]
 }
 
 // Two's complement.
-pub fn bits(z: i64) -> u64
+fn bits(z: i64) -> u64
     ensures { λ w. ⌜ w ≡ bits-of z ⌝ }
 {
     if z < 0 {

@@ -30,9 +30,9 @@ codeAt s code start item p = cond code (offsetAt s start item p) (answer (record
 -- flags and code offset
 unfoldable pub restAt : List ℕ → MemberJudge → ℕ → ℕ → ℕ → Outcome (Found Member ℕ)
 restAt s j item index p = do
-  f ← ulebAt s item p
-  c ← codeAt s (j .code) (j .start) item (f .next)
-  answer (record { item = record { index = index; flags = f .item; code = c .item }; next = c .next })
+  flags ← ulebAt s item p
+  code ← codeAt s (j .code) (j .start) item (flags .next)
+  answer (record { item = record { index = index; flags = flags .item; code = code .item }; next = code .next })
 
 -- a member after one whose index is `base`: "Member indices start with the first number and add each difference"; "11: an index in the file is out of range"
 unfoldable pub memberAt : List ℕ → MemberJudge → ℕ → ℕ → Bool → ℕ → Outcome (Found Member ℕ)

@@ -1,23 +1,33 @@
 -- What the proofs of the going over cite: the stages of a body, of class data and of a class, and the loop over methods.
 -- Assumes nothing.
-use Prim.Native.Nat.{ℕ, _-_, _<_, _≤_}
+use Prim.Native.Nat.{ℕ, suc, _+_, _*_, _-_, _<_, _≤_}
 use mathlib.Core.Path.{_≡_, refl, ap, sym, _∙_}
-use mathlib.Core.Bool.{Bool, true, false}
+use mathlib.Core.Bool.{Bool, true, false, cond}
 use mathlib.Core.Option.{Option}
 use mathlib.Core.List.{List}
 use lib.ListN.{length}
+use lib.Dec.{ltb, leb}
 use borrow.Author.Needs.{needs}
+use borrow.Author.Tests.{lt-ltb, le-ltb, le-leb, lt-leb}
+use native.Mathlib.Omega.{arith}
+use Rattle.refusal.specs.Refusals.{too-many-values}
 use Rattle.refusal.specs.declared.Refusal.{Refusal}
 use Rattle.refusal.specs.declared.CheckAnswer.{CheckAnswer}
 use Rattle.refusal.specs.declared.CheckAnswer.the-variants as C
-use Rattle.refusal.specs.Outcome.{Outcome, answer, refused, _>>=_, present, accepted}
+use Rattle.refusal.specs.Outcome.{Outcome, answer, refused, _>>=_, given, present, accepted}
 use Rattle.refusal.specs.Rows.{Found, past, collect, through, with-below}
 use Rattle.refusal.specs.Answers.{checked-outcome}
-use Rattle.refusal.proofs.Laws.{said, bind-answer, bind-refused, tests, calls}
+use Rattle.refusal.proofs.Laws.{said, bind-answer, bind-refused, picks, leaves, passes, fails, tests, calls}
 use Rattle.refusal.proofs.Rows.{bind-assoc}
 use Rattle.refusal.proofs.Kept.{kept, accepted-answer, accepted-refused, kept-part, kept-on, made-kept}
 use Rattle.refusal.proofs.Through.{gone-over}
 use Rattle.refusal.proofs.Loops.{Gather, gather-first, gather-next, gather-stop, gather-done}
+use Rattle.refusal.specs.Exact.{Present, absent, found-there}
+use Rattle.leb128.specs.Leb.{ulebAt}
+use Rattle.leb128.specs.Answers.{leb-outcome}
+use Rattle.leb128.specs.declared.LebAnswer.{LebAnswer}
+use Rattle.leb128.specs.declared.LebAnswer.the-variants as L
+use Rattle.leb128.proofs.Exactly.{uleb-exact}
 use Rattle.frame.specs.declared.Frame.{Frame}
 use Rattle.header.specs.declared.Header.{Header}
 use Rattle.header.specs.Header.{up-to-end, frame-of, plain-frame}
@@ -44,7 +54,9 @@ use Rattle.debug_info.specs.Debug.{debugAt, extentAt}
 use Rattle.debug_info.proofs.Laws.{on-debug}
 use Rattle.value_heads.specs.declared.Walk.{Walk}
 use Rattle.value_heads.specs.Kinds.{walkOf}
+use Rattle.encoded_value.specs.Tree.{Tree}
 use Rattle.encoded_value.specs.Depth.{deepest}
+use Rattle.encoded_value.specs.Rules.{ValueRow, no-value, next-value, ArrayBody, array-body}
 use Rattle.encoded_value.specs.Readings.{arrayAt, pastArray}
 use Rattle.encoded_value.proofs.Leaves.{on-step}
 use Rattle.annotation_walk.specs.Below.{directoryBelow}
@@ -52,7 +64,9 @@ use Rattle.type_list.specs.Below.{typesBelow}
 use Rattle.class_walk.specs.declared.PassedAnswer.{PassedAnswer}
 use Rattle.class_walk.specs.Answers.{passed-outcome}
 use Rattle.class_walk.specs.Methods.{Body, DataBelow, bodyAt, methodBelow, dataBelow, debugAccepted, methodsPass, bothPass}
-use Rattle.class_walk.specs.Classes.{valuesAt, annotationsAt, dataAt, staticsAt, below, classBelow, belowPass}
+use Rattle.class_walk.specs.Classes.{ClassBelow, static-count, value-count, fitting, number-in, firstNumber, valuesAt, annotationsAt, dataAt, staticsAt, below, classBelow, belowPass, fitPass}
+use Rattle.class_walk.specs.Rules.{DataBelowRule, ValuesRule}
+use Rattle.class_walk.proofs.Exactly.{led-exact}
 
 -- ---- a body
 pub debug-by : (s : List ℕ) (strings item : ℕ) {y : Outcome Unit} → y ≡ (extentAt s strings item >>= accepted) → y ≡ (debugAt s strings item >>= accepted)
@@ -174,6 +188,29 @@ module _ (f : List ℕ) (h : Header) (handles at : ℕ) {s : List ℕ} (e : s �
       ∙ made-kept _ (arrayAt (up-to-end f h) (walkOf (frame-of h handles) at) deepest at)
       ∙ sym (made-kept _ (arrayAt (up-to-end f h) (walkOf (frame-of h handles) at) deepest at))
 
+-- the number that an item begins with, as the code reads it
+module _ (s : List ℕ) (at : ℕ) where
+  pub first-absent : at ≤ 0 → 0 ≡ firstNumber s at
+  unfolding firstNumber
+  first-absent l = leaves _ (le-ltb 0 at l) refl
+
+  module _ (l : 0 < at) {x : LebAnswer} (e : leb-outcome x ≡ ulebAt s at at) where
+    pub first-got : {v n : ℕ} → x ≡ L.Got v n → v ≡ firstNumber s at
+    unfolding firstNumber
+    first-got t = picks _ (lt-ltb 0 at l) (ap number-in (sym (ap leb-outcome t) ∙ e))
+
+    pub first-refused : {r : Refusal} → x ≡ L.Refused r → 0 ≡ firstNumber s at
+    unfolding firstNumber
+    first-refused t = picks _ (lt-ltb 0 at l) (ap number-in (sym (ap leb-outcome t) ∙ e))
+
+-- the size that an array begins with is how many values it has
+row-size : {s : List ℕ} {w : Walk} {n p q : ℕ} {l : List Tree} → ValueRow s w n p l q → n ≡ length l
+row-size no-value = refl
+row-size (next-value v r) = ap suc (row-size r)
+
+array-size : {s : List ℕ} {w : Walk} {p q : ℕ} {l : List Tree} → ArrayBody s w p l q → number-in (ulebAt s p p) ≡ length l
+array-size {s} {w} {p} (array-body {size = size} u r) = ap number-in (uleb-exact s p p .complete size u) ∙ row-size r
+
 -- ---- a class
 module _ (f : List ℕ) (h : Header) (handles : ℕ) where
   below-kept : (c : Class) → (below f h handles c >>= accepted) ≡ belowPass f h handles (c .interfaces) (c .directory) (c .«data») (c .values)
@@ -181,15 +218,52 @@ module _ (f : List ℕ) (h : Header) (handles : ℕ) where
   below-kept c =
       kept-on (typesBelow f h (c .interfaces)) _ _ _ refl (λ i t.
       kept-on (annotationsAt f h handles (c .directory)) _ _ _ refl (λ a t.
-      kept-on (dataAt f h handles (c .«data»)) _ _ _ refl (λ d t.
+      kept-on (dataAt f h (c .«data»)) _ _ _ refl (λ d t.
       made-kept _ (staticsAt f h handles (c .values)))))
 
+  -- ---- no more static values than static fields: class data and an array begin with these counts
+  fields-first : (at : ℕ) {d : Option DataBelow} → Present (DataBelowRule (up-to-end f h) (plain-frame h) at) at d → firstNumber (up-to-end f h) at ≡ static-count d
+  unfolding firstNumber
+  fields-first at (absent e) = sym (first-absent (up-to-end f h) at (omega arith))
+  fields-first at (found-there {a = d} l r) =
+      sym (picks _ (lt-ltb 0 at l) (r .members .statics .members .count ∙ sym (ap number-in (uleb-exact (up-to-end f h) at at .complete _ (r .members .counted .statics)))))
+
+  values-first : (at : ℕ) {l : Option (List Tree)} → Present (ValuesRule (up-to-end f h) (walkOf (frame-of h handles) at) at) at l → firstNumber (up-to-end f h) at ≡ value-count l
+  unfolding firstNumber
+  values-first at (absent e) = sym (first-absent (up-to-end f h) at (omega arith))
+  values-first at (found-there {a = l} p r) = sym (picks _ (lt-ltb 0 at p) (sym (array-size (r .body .body))))
+
+  fit-kept : (place : ℕ) (c : Class) (b : ClassBelow) → below f h handles c ≡ answer b → (fitting place b >>= accepted) ≡ fitPass f h place (c .«data») (c .values)
+  unfolding fitting fitPass given _>>=_
+  fit-kept place c b e =
+      let led = led-exact f h handles c .sound b e in
+      go (leb (value-count (b .values)) (static-count (b .members)))
+      ∙ λ i. given (leb (sym (values-first (c .values) (led .values)) i) (sym (fields-first (c .«data») (led .members)) i)) (too-many-values place) (answer tt)
+    where
+      go : (t : Bool) → (given t (too-many-values place) (answer b) >>= accepted) ≡ given t (too-many-values place) (answer tt)
+      go true = refl
+      go false = refl
+
   pub class-by : (n : ℕ) {r : Frame} {y : Outcome Unit} → r ≡ plain-frame h
-      → y ≡ (classAt f r (h .end) (h .classes .offset) n >>= λ (c : Class). belowPass f h handles (c .interfaces) (c .directory) (c .«data») (c .values)) → y ≡ (classBelow f h handles n >>= accepted)
+      → y ≡ (classAt f r (h .end) (h .classes .offset) n >>= λ (c : Class). belowPass f h handles (c .interfaces) (c .directory) (c .«data») (c .values) >>= λ (u : Unit). fitPass f h (h .classes .offset + 32 * n) (c .«data») (c .values))
+      → y ≡ (classBelow f h handles n >>= accepted)
   unfolding classBelow
   class-by n {r} g e =
-      e ∙ (λ i. classAt f (g i) (h .end) (h .classes .offset) n >>= λ (c : Class). sym (below-kept c) i)
-      ∙ sym (bind-assoc (classAt f (plain-frame h) (h .end) (h .classes .offset) n) (below f h handles) accepted)
+      e ∙ (λ i. classAt f (g i) (h .end) (h .classes .offset) n >>= λ (c : Class). sym (kept-on (below f h handles c) _ (fitting (h .classes .offset + 32 * n)) _ (below-kept c) (fit-kept (h .classes .offset + 32 * n) c)) i)
+      ∙ sym (bind-assoc (classAt f (plain-frame h) (h .end) (h .classes .offset) n) _ accepted)
+
+  -- the counts as the code reads them
+  counted-by : (members values : ℕ) {s : List ℕ} {m n : ℕ} → s ≡ up-to-end f h → n ≡ firstNumber s values → m ≡ firstNumber s members
+      → leb (firstNumber (up-to-end f h) values) (firstNumber (up-to-end f h) members) ≡ leb n m
+  counted-by members values e v w = λ i. leb ((sym (ap (λ (x : List ℕ). firstNumber x values) e) ∙ sym v) i) ((sym (ap (λ (x : List ℕ). firstNumber x members) e) ∙ sym w) i)
+
+  pub fit-allowed : (place members values : ℕ) {s : List ℕ} {m n : ℕ} → s ≡ up-to-end f h → n ≡ firstNumber s values → m ≡ firstNumber s members → n ≤ m → answer tt ≡ fitPass f h place members values
+  unfolding fitPass
+  fit-allowed place members values {s} {m} {n} e v w l = passes _ (counted-by members values e v w ∙ le-leb n m l) refl
+
+  pub fit-refused : (place members values : ℕ) {s : List ℕ} {m n : ℕ} {q : Refusal} → s ≡ up-to-end f h → n ≡ firstNumber s values → m ≡ firstNumber s members → m < n → q ≡ too-many-values place → refused q ≡ fitPass f h place members values
+  unfolding fitPass
+  fit-refused place members values {s} {m} {n} {q} e v w l z = fails _ z (counted-by members values e v w ∙ lt-leb n m l)
 
 pub ruleset body-laws = (debug-by, on-debug, body-by, on-code, kept, calls, tests, needs)
 
@@ -198,5 +272,9 @@ pub ruleset loop-laws = (going-first, going-next, going-stop, going-fail, going-
 pub ruleset data-laws = (data-by, on-methods, on-passed, calls, needs)
 
 pub ruleset framed = (directory-framed, data-framed, values-framed, on-step, kept, calls, needs)
+
+pub ruleset first-laws = (first-absent, first-got, first-refused, needs)
+
+pub ruleset fit-laws = (fit-allowed, fit-refused, needs)
 
 pub ruleset laws = (class-by, class-laws, kept, calls, needs)

@@ -1,5 +1,5 @@
 -- A class with all below it as a rule: each item that is reached obeys its own rules, with no walk.
-use Prim.Native.Nat.{ℕ}
+use Prim.Native.Nat.{ℕ, _≤_}
 use mathlib.Core.Option.{Option}
 use mathlib.Core.List.{List}
 use Rattle.refusal.specs.Exact.{Present, Alike}
@@ -18,7 +18,7 @@ use Rattle.encoded_value.specs.Tree.{Tree}
 use Rattle.encoded_value.specs.Rules.{ArrayRule}
 use Rattle.annotation_walk.specs.Rules.{DirectoryBelow}
 use Rattle.class_walk.specs.Methods.{Body, DataBelow}
-use Rattle.class_walk.specs.Classes.{ClassBelow}
+use Rattle.class_walk.specs.Classes.{ClassBelow, static-count, value-count}
 
 module _ (s : List ℕ) (frame : Frame) where
   pub record BodyRule (item : ℕ) (b : Body) : Type 0 where
@@ -46,3 +46,5 @@ pub record ClassBelowRule (f : List ℕ) (header : Header) (handles n : ℕ) (c 
   pub annotations : Present (DirectoryBelow (up-to-end f header) (frame-of header handles) (c .own .directory)) (c .own .directory) (c .annotations)
   pub members : Present (DataBelowRule (up-to-end f header) (plain-frame header) (c .own .«data»)) (c .own .«data») (c .members)
   pub values : Present (ValuesRule (up-to-end f header) (walkOf (frame-of header handles) (c .own .values)) (c .own .values)) (c .own .values) (c .values)
+  -- "the list may not be longer than the static fields"
+  pub fits : value-count (c .values) ≤ static-count (c .members)

@@ -10,12 +10,13 @@ use debug_info::DebugAnswer;
 use encoded_value::StepAnswer;
 use frame::Frame;
 use header::Header;
+use leb128::LebAnswer;
 use refusal::CheckAnswer;
 use refusal::Refusal;
 ghost use mathlib.Core.Path.{_≡_};
 ghost use Rattle.refusal.specs.Answers.{checked-outcome};
 ghost use Rattle.class_walk.specs.Methods.{debugAccepted, bodyAccepted, methodAccepted, methodsPass, bothPass, dataAccepted};
-ghost use Rattle.class_walk.specs.Classes.{annotationsAccepted, membersAccepted, staticsAccepted, belowPass, classAccepted};
+ghost use Rattle.class_walk.specs.Classes.{annotationsAccepted, membersAccepted, staticsAccepted, belowPass, firstNumber, fitPass, classAccepted};
 ghost use Rattle.class_walk.specs.Answers.{passed-outcome};
 
 // The place after a list of methods.
@@ -135,8 +136,8 @@ fn annotations_below(f: &[u8], header: Header, handles: u32, at: u32) -> CheckAn
     )
 }
 
-fn data_below(f: &[u8], header: Header, handles: u32, at: u32) -> CheckAnswer
-    ensures { λ r. ⌜ checked-outcome r ≡ membersAccepted (now (f .entry)) header handles at ⌝ }
+fn data_below(f: &[u8], header: Header, at: u32) -> CheckAnswer
+    ensures { λ r. ⌜ checked-outcome r ≡ membersAccepted (now (f .entry)) header at ⌝ }
 {
     if at <= 0 {
         return CheckAnswer::Accepted;
@@ -178,12 +179,38 @@ fn below_pass(
         CheckAnswer::Refused(r) => CheckAnswer::Refused(r),
         CheckAnswer::Accepted => match annotations_below(f, header, handles, directory) {
             CheckAnswer::Refused(r) => CheckAnswer::Refused(r),
-            CheckAnswer::Accepted => match data_below(f, header, handles, members) {
+            CheckAnswer::Accepted => match data_below(f, header, members) {
                 CheckAnswer::Refused(r) => CheckAnswer::Refused(r),
                 CheckAnswer::Accepted => values_below(f, header, handles, values),
             },
         },
     }
+}
+
+// The number that an item begins with, 0 where the item is absent: of class data how many static fields it has, of an array how many values.
+fn first_number(s: &[u8], at: u32) -> u32
+    ensures { λ r. ⌜ r ≡ firstNumber (now (s .entry)) at ⌝ }
+{
+    if at <= 0 {
+        return 0;
+    }
+    match leb128::uleb(s, at as usize, at as usize) {
+        LebAnswer::Refused(_) => 0,
+        LebAnswer::Got { value, next: _ } => value,
+    }
+}
+
+// No more static values than static fields, of class data and an array that were gone over: 21 at the class record.
+fn check_fit(f: &[u8], header: Header, place: usize, members: u32, values: u32) -> CheckAnswer
+    ensures { λ r. ⌜ checked-outcome r ≡ fitPass (now (f .entry)) header place members values ⌝ }
+{
+    let s = header::up_to_end(f, header);
+    let stored = first_number(s, values);
+    let fields = first_number(s, members);
+    if stored <= fields {
+        return CheckAnswer::Accepted;
+    }
+    CheckAnswer::Refused(refusal::too_many_values(place))
 }
 
 // Class n with all below it.
@@ -193,7 +220,7 @@ pub fn check_class(f: &[u8], header: Header, handles: u32, n: u32) -> CheckAnswe
     let t = header.classes;
     match class_ids::class_at(f, header::plain_frame(header), header.end, t.offset, n) {
         ClassAnswer::Refused(r) => CheckAnswer::Refused(r),
-        ClassAnswer::Got(c) => below_pass(
+        ClassAnswer::Got(c) => match below_pass(
             f,
             header,
             handles,
@@ -201,6 +228,15 @@ pub fn check_class(f: &[u8], header: Header, handles: u32, n: u32) -> CheckAnswe
             c.directory,
             c.data,
             c.values,
-        ),
+        ) {
+            CheckAnswer::Refused(r) => CheckAnswer::Refused(r),
+            CheckAnswer::Accepted => check_fit(
+                f,
+                header,
+                t.offset as usize + 32 * n as usize,
+                c.data,
+                c.values,
+            ),
+        },
     }
 }

@@ -83,6 +83,6 @@ no-room = record { number = 19; place = 0 }
 abbrev pub input-too-long : Refusal
 input-too-long = record { number = 20; place = 0 }
 
--- document 02, ticket 1: "the list may not be longer than the static fields; such a file is now refused with a new number 21 at the class record"
+-- request 1: "the list may not be longer than the static fields; such a file is now refused with a new number 21 at the class record"
 abbrev pub too-many-values : ℕ → Refusal
-too-many-values record-place = record { number = 21; place = record-place }
+too-many-values holder = record { number = 21; place = holder }

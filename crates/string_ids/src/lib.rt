@@ -38,7 +38,7 @@ pub enum LookupAnswer {
 }
 
 // Where the record of string n is.
-pub fn place_of(header: Header, n: u32) -> usize
+fn place_of(header: Header, n: u32) -> usize
     ensures { λ r. ⌜ r ≡ stringPlace header n ⌝ }
 {
     let strings = header.strings;

@@ -61,7 +61,7 @@ fn u32_low_first(a: u8, b: u8, c: u8, d: u8) -> u32
 }
 
 // Two bytes as one number.
-pub fn u16_of(order: Endian, a: u8, b: u8) -> u16
+fn u16_of(order: Endian, a: u8, b: u8) -> u16
     ensures { λ r. ⌜ r ≡ u16Of order a b ⌝ }
 {
     match order {
@@ -71,7 +71,7 @@ pub fn u16_of(order: Endian, a: u8, b: u8) -> u16
 }
 
 // Four bytes as one number.
-pub fn u32_of(order: Endian, a: u8, b: u8, c: u8, d: u8) -> u32
+fn u32_of(order: Endian, a: u8, b: u8, c: u8, d: u8) -> u32
     ensures { λ r. ⌜ r ≡ u32Of order a b c d ⌝ }
 {
     match order {
