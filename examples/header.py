@@ -90,7 +90,7 @@ def readers():
 CALLED = {'kind': ['TYPE', 'PROTO'], 'type_index': ['TYPE'], 'class': ['TYPE'], 'start': ['PLACE'], 'offset': ['PLACE'], 'from': ['FIRST_TRY'], 'base': ['HANDLER_LIST'],
           'handler': ['HANDLER_OFFSET'], 'first_word': ['NUMBER'], 'second_word': ['LENGTH'], '12': ['PLACE'], '20': ['LENGTH'], 'n': ['NUMBER'], 'o': ['NUMBER']}
 # Words that several functions answer, and the enums that have them.
-SHARED = {'number': ['number'], 'option': ['number'], 'value': ['value'], 'element': ['value', 'element'], 'place': ['entry'], 'no': []}
+SHARED = {'number': ['number'], 'option': ['number'], 'value': ['value'], 'element': ['value', 'element'], 'static': ['value', 'static'], 'place': ['entry'], 'no': []}
 
 
 def words_of(name):
@@ -110,7 +110,7 @@ def word_of(item):
     """`h .strings .count` is strings_count, `o .head .units` units."""
     if item.startswith(('first-word', 'second-word')):
         return item.split()[0].replace('-', '_')
-    path = re.findall(r'[\w-]+', item.replace('option-word', ''))
+    path = re.findall(r'[\w-]+', item.replace('option-word', '').replace('truth-word', ''))
     inner = [p.replace('-', '_') for p in path[1:] if p not in ('head', 'attempt')]
     return '_'.join(inner) if inner else path[0]
 

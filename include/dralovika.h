@@ -390,6 +390,25 @@ void dralovika_static_value_count(const uint8_t *file, size_t length, uint32_t c
 /* A value: static value k of class c */
 void dralovika_static_value(const uint8_t *file, size_t length, uint32_t c, uint32_t k, uint64_t out[DRALOVIKA_WORDS]);
 
+/* A static field with its value: the value, and these. */
+enum dralovika_static_words {
+    DRALOVIKA_STATIC_FIELD = 4, /* a field */
+    DRALOVIKA_STATIC_FLAGS = 5,
+    DRALOVIKA_STATIC_STORED = 6 /* 1 where the value is stored; 0 where the class has no value for the field, and this is the zero, false or null of its type */
+};
+
+/* A static field with its value: static field k of class c; none where the class has no class data. Where the class has no value k, the value is the zero of a
+   type B, S, C, I, J, F or D, false for Z, and null for any other. Refused with 21 where the class has more values than static fields. */
+void dralovika_static_field(const uint8_t *file, size_t length, uint32_t c, uint32_t k, uint64_t out[DRALOVIKA_WORDS]);
+
+/* The first static field of class c whose value has the wrong kind; none where every kind fits. The types Z, B, S, C, I, J, F and D take the kinds boolean, byte,
+   short, char, int, long, float and double, and any other type takes those from proto to null. Only values that are stored are asked about. */
+enum dralovika_wrong_kind_words {
+    DRALOVIKA_WRONG_KIND_NUMBER = 1, /* k, as dralovika_static_field takes it */
+    DRALOVIKA_WRONG_KIND_FIELD = 2
+};
+void dralovika_wrong_kind(const uint8_t *file, size_t length, uint32_t c, uint64_t out[DRALOVIKA_WORDS]);
+
 /* The array at a place. */
 enum dralovika_array_words {
     DRALOVIKA_ARRAY_COUNT = 1, /* how many values */

@@ -27,7 +27,7 @@ READERS = numbered({
     24: 'code try_item covering_try handler_count handler handler_pair debug debug_parameter', 32: 'directory field_entry method_entry parameter_entry parameter_set_count',
     40: 'class_annotation_count field_annotation_count method_annotation_count parameter_annotation_count',
     44: 'class_annotation_place field_annotation_place method_annotation_place parameter_annotation_place',
-    48: 'array array_value annotation_body annotation_body_element annotation annotation_element',
+    48: 'array array_value annotation_body annotation_body_element annotation annotation_element static_field wrong_kind',
     # the annotation that the four readers before give the place of, and its element e
     56: 'class_item field_item method_item parameter_item class_element field_element method_element parameter_element',
     64: 'signature string_bytes line_program find_string class_flags member_flags units'})

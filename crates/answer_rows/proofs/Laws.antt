@@ -2,8 +2,10 @@
 -- Assumes nothing.
 use Prim.Native.Nat.{ℕ}
 use mathlib.Core.Path.{_≡_, ap, sym, _∙_}
+use mathlib.Core.Bool.{Bool, cond}
 use mathlib.Core.Option.{Option}
 use mathlib.Core.List.{List, [], _∷_}
+use lib.ListN.{length, set}
 use lib.IntN.{ℤ}
 use mir.Syntax.{Width}
 use mir.Val.{SFits, toZ, ofZ}
@@ -43,6 +45,9 @@ use Rattle.value_bodies.specs.declared.PickedAnswer as Picked
 use Rattle.value_bodies.specs.Answers.{picked-outcome}
 use Rattle.value_bodies.specs.declared.ElementAnswer as Element
 use Rattle.value_bodies.specs.Answers.{element-outcome}
+use Rattle.static_fields.specs.declared.StaticFieldAnswer as Static
+use Rattle.static_fields.specs.declared.WrongKindAnswer as Wrong
+use Rattle.static_fields.specs.Answers.{as-field, maybe-field, maybe-wrong}
 use Rattle.class_ids.specs.declared.Class.{Class}
 use Rattle.class_ids.specs.declared.ClassAnswer.{ClassAnswer}
 use Rattle.class_ids.specs.Answers.{class-outcome}
@@ -51,7 +56,7 @@ use Rattle.header.specs.Answers.{header-outcome}
 use Rattle.string_ids.specs.declared.FoundString.{FoundString}
 use Rattle.string_ids.specs.declared.LookupAnswer as Lookup
 use Rattle.string_ids.specs.Answers.{found-number, lookup-outcome}
-use Rattle.answer_rows.specs.Words.{class-words, joined-words, maybe-word, signature-words, array-words, bits-of, body-words, element-words, entry-words, handle-words, header-words, member-words, named-words, number-words, order-word, ordered-words, proto-words, row, text-words, told, told-if, value-words}
+use Rattle.answer_rows.specs.Words.{class-words, joined-words, maybe-word, signature-words, array-words, bits-of, body-words, element-words, entry-words, handle-words, header-words, member-words, named-words, number-words, order-word, ordered-words, proto-words, row, text-words, told, told-if, value-words, static-words, wrong-words}
 
 -- ---- values
 -- a value that is known, and its number
@@ -66,7 +71,15 @@ pub signed-by : (w : Width) (z : ℤ) {kind x name : ℕ} {y : List ℕ} → SFi
     → y ≡ row (0 ∷ kind ∷ bits-of z ∷ 0 ∷ name ∷ [])
 signed-by w z f e q = numbered-by (e ∙ ap bits-of (toZ-ofZ f)) q
 
-pub ruleset laws = (shown-by, numbered-by, signed-by, needs)
+-- a row of a value with its field, and two words more
+pub paired-by : (v : Value) (field flags : ℕ) (stored : Bool) {x : ℕ} {y : List ℕ} → x ≡ cond stored 1 0 → y ≡ row (0 ∷ named-words (value-shown v) field)
+    → set (set y 5 flags) 6 x ≡ row (0 ∷ static-words (as-field field flags stored (value-shown v)))
+paired-by v field flags stored e q = λ i. set (set (q i) 5 flags) 6 (e i)
+
+pub long-row : (v : Value) (field : ℕ) {y : List ℕ} → y ≡ row (0 ∷ named-words (value-shown v) field) → length y ≡ 20
+long-row v field q = ap length q
+
+pub ruleset laws = (shown-by, numbered-by, signed-by, paired-by, long-row, needs)
 
 -- ---- rows: the arm that was taken says which answer it is
 pub arm : {X A : Type 0} (means : X → Outcome A) (words : A → List ℕ) (x c : X) {y : List ℕ} → x ≡ c → y ≡ told words (means c) → y ≡ told words (means x)
@@ -117,7 +130,16 @@ picked-arm = arm picked-outcome value-words
 pub element-arm : (x c : Element.ElementAnswer) {y : List ℕ} → x ≡ c → y ≡ told element-words (element-outcome c) → y ≡ told element-words (element-outcome x)
 element-arm = arm element-outcome element-words
 
-pub ruleset arms = (count-arm, entry-arm, handle-arm, text-arm, index-arm, proto-arm, member-arm, list-arm, listed-arm, flags-arm, array-arm, body-arm, size-arm, picked-arm, element-arm, needs)
+arm-if : {X A : Type 0} (means : X → Outcome (Option A)) (words : A → List ℕ) (x c : X) {y : List ℕ} → x ≡ c → y ≡ told-if words (means c) → y ≡ told-if words (means x)
+arm-if means words x c e q = q ∙ ap (λ (u : _). told-if words (means u)) (sym e)
+
+pub static-arm : (x c : Static.StaticFieldAnswer) {y : List ℕ} → x ≡ c → y ≡ told-if static-words (maybe-field c) → y ≡ told-if static-words (maybe-field x)
+static-arm = arm-if maybe-field static-words
+
+pub wrong-arm : (x c : Wrong.WrongKindAnswer) {y : List ℕ} → x ≡ c → y ≡ told-if wrong-words (maybe-wrong c) → y ≡ told-if wrong-words (maybe-wrong x)
+wrong-arm = arm-if maybe-wrong wrong-words
+
+pub ruleset arms = (static-arm, wrong-arm, count-arm, entry-arm, handle-arm, text-arm, index-arm, proto-arm, member-arm, list-arm, listed-arm, flags-arm, array-arm, body-arm, size-arm, picked-arm, element-arm, needs)
 
 -- ---- the larger rows
 pub ordered : (h : Header) {o : ℕ} {y : List ℕ} → o ≡ order-word (h .order) → y ≡ row (0 ∷ ordered-words h o) → y ≡ row (0 ∷ header-words h)

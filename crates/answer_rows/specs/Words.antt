@@ -1,7 +1,7 @@
 -- An answer as a C program finds it: twenty words of 64 bits. Word 0 says which: 0 an answer, whose words follow; 1 none; 2 a refusal, whose
 -- number and place follow. The words that are left are 0.
 use Prim.Native.Nat.{ℕ, zero, suc, _-_, _^_}
-use mathlib.Core.Bool.{cond}
+use mathlib.Core.Bool.{Bool, cond}
 use mathlib.Core.Option.{Option, none, some}
 use mathlib.Core.List.{List, [], _∷_}
 use lib.IntN.{ℤ, pos, negsuc}
@@ -20,6 +20,7 @@ use Rattle.class_ids.specs.declared.Maybe as M
 use Rattle.decoded_value.specs.Shown.{Shown, Content, integer, natural, floating, row-number, body, nothing, truth}
 use Rattle.value_bodies.specs.Bodies.{ShownElement}
 use Rattle.value_readers.specs.Bodies.{ArraySize, NotedSize}
+use Rattle.static_fields.specs.Pairing.{StaticField, WrongKind}
 use Rattle.class_data.specs.declared.Counts.{Counts}
 use Rattle.class_members.specs.declared.Member as D
 use Rattle.code_item.specs.declared.Outline.{Outline}
@@ -107,6 +108,9 @@ abbrev pub bits-of : ℤ → ℕ
 bits-of (pos n) = n
 bits-of (negsuc n) = 18446744073709551615 - n
 
+abbrev pub truth-word : Bool → ℕ
+truth-word b = cond b 1 0
+
 abbrev pub first-word : Content → ℕ
 first-word (integer z) = bits-of z
 first-word (natural n) = n
@@ -114,7 +118,7 @@ first-word (floating bits x) = bits
 first-word (row-number n) = n
 first-word (body offset length) = offset
 first-word nothing = 0
-first-word (truth b) = cond b 1 0
+first-word (truth b) = truth-word b
 
 abbrev pub second-word : Content → ℕ
 second-word (integer z) = 0
@@ -141,6 +145,14 @@ array-words a = a .count ∷ a .length ∷ []
 
 abbrev pub body-words : NotedSize → List ℕ
 body-words b = b .type-index ∷ b .count ∷ b .length ∷ []
+
+-- a static field: its value, then the field's number, its flags, and 1 where the value is stored
+abbrev pub static-words : StaticField → List ℕ
+static-words a = a .value .kind ∷ first-word (a .value .content) ∷ second-word (a .value .content) ∷ a .field ∷ a .flags ∷ truth-word (a .stored) ∷ []
+
+-- its number in the class's list, and the field's
+abbrev pub wrong-words : WrongKind → List ℕ
+wrong-words a = a .number ∷ a .field ∷ []
 
 -- nothing but that there is an answer
 abbrev pub no-words : {A : Type 0} → A → List ℕ

@@ -38,4 +38,6 @@ pub use rows::member_row;
 pub use rows::picked_row;
 pub use rows::proto_row;
 pub use rows::size_row;
+pub use rows::static_row;
 pub use rows::text_row;
+pub use rows::wrong_row;

@@ -16,7 +16,8 @@ ghost use Rattle.value_readers.specs.Answers.{body-outcome};
 ghost use Rattle.value_bodies.specs.Answers.{count-outcome as size-outcome};
 ghost use Rattle.value_bodies.specs.Answers.{picked-outcome};
 ghost use Rattle.value_bodies.specs.Answers.{element-outcome};
-ghost use Rattle.answer_rows.specs.Words.{array-words, body-words, element-words, entry-words, handle-words, member-words, number-words, proto-words, text-words, told, value-words};
+ghost use Rattle.static_fields.specs.Answers.{maybe-field, maybe-wrong};
+ghost use Rattle.answer_rows.specs.Words.{array-words, body-words, element-words, entry-words, handle-words, member-words, number-words, proto-words, static-words, text-words, told, told-if, value-words, wrong-words};
 
 pub fn count_row(a: table_readers::CountAnswer) -> [u64; 20]
     ensures { λ w. ⌜ w ≡ told number-words (count-outcome a) ⌝ }
@@ -173,5 +174,35 @@ pub fn element_row(a: value_bodies::ElementAnswer) -> [u64; 20]
     match a {
         value_bodies::ElementAnswer::Refused(r) => words::refused(r),
         value_bodies::ElementAnswer::Got { name, value } => words::value(value, name),
+    }
+}
+
+pub fn static_row(a: static_fields::StaticFieldAnswer) -> [u64; 20]
+    ensures { λ w. ⌜ w ≡ told-if static-words (maybe-field a) ⌝ }
+{
+    match a {
+        static_fields::StaticFieldAnswer::Refused(r) => words::refused(r),
+        static_fields::StaticFieldAnswer::Absent => words::absent(),
+        static_fields::StaticFieldAnswer::Got {
+            field,
+            flags,
+            stored,
+            value,
+        } => words::paired(value, field, flags, stored),
+    }
+}
+
+pub fn wrong_row(a: static_fields::WrongKindAnswer) -> [u64; 20]
+    ensures { λ w. ⌜ w ≡ told-if wrong-words (maybe-wrong a) ⌝ }
+{
+    match a {
+        static_fields::WrongKindAnswer::Refused(r) => words::refused(r),
+        static_fields::WrongKindAnswer::Absent => words::absent(),
+        static_fields::WrongKindAnswer::Got { k, field } => words::four(
+            k as u64,
+            field as u64,
+            0,
+            0,
+        ),
     }
 }

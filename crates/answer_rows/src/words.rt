@@ -5,7 +5,8 @@ ghost use mathlib.Core.Path.{_≡_};
 ghost use mathlib.Core.Bool.{cond};
 ghost use mathlib.Core.List.{[], _∷_};
 ghost use Rattle.decoded_value.specs.Shown.{value-shown};
-ghost use Rattle.answer_rows.specs.Words.{row, refusal-row, bits-of, named-words};
+ghost use Rattle.static_fields.specs.Answers.{as-field};
+ghost use Rattle.answer_rows.specs.Words.{row, refusal-row, bits-of, named-words, static-words};
 
 pub fn refused(r: Refusal) -> [u64; 20]
     ensures { λ a. ⌜ a ≡ refusal-row r ⌝ }
@@ -134,4 +135,14 @@ pub fn value(v: Value, name: u32) -> [u64; 20]
         Value::Null => four(30, 0, 0, name as u64),
         Value::Boolean(b) => four(31, truth_word(b), 0, name as u64),
     }
+}
+
+// A value, and behind it the static field whose value it is: its number, its flags, and whether the value is stored.
+pub fn paired(v: Value, field: u32, flags: u32, stored: bool) -> [u64; 20]
+    ensures { λ a. ⌜ a ≡ row (0 ∷ static-words (as-field field flags stored (value-shown v))) ⌝ }
+{
+    let mut row = value(v, field);
+    row[5] = flags as u64;
+    row[6] = truth_word(stored);
+    row
 }

@@ -7,11 +7,24 @@ use Rattle.refusal.specs.Rows.{Found}
 use Rattle.refusal.proofs.Laws.{one-to-one}
 use Rattle.class_members.specs.declared.Member.{Member}
 use Rattle.class_data.specs.declared.Counts.{Counts}
-use Rattle.class_data.specs.Answers.{data-outcome, methods-outcome, member-outcome}
+use Rattle.class_data.specs.Answers.{counts-outcome, data-outcome, methods-outcome, member-outcome}
+use Rattle.class_data.specs.declared.CountsAnswer as C
 use Rattle.class_data.specs.declared.DataAnswer as D
 use Rattle.class_data.specs.declared.MemberAnswer as M
 use Rattle.class_data.specs.declared.Methods.{Methods}
 use Rattle.class_data.specs.declared.MethodsAnswer as N
+
+counts-back : Outcome (Found Counts ℕ) → C.CountsAnswer
+counts-back (answer r) = C.the-variants.Got (r .item) (r .next)
+counts-back (refused r) = C.the-variants.Refused r
+
+counts-told : (x : C.CountsAnswer) → counts-back (counts-outcome x) ≡ x
+unfolding counts-back
+counts-told (C.the-variants.Got c n) = refl
+counts-told (C.the-variants.Refused r) = refl
+
+pub counts-once : (x y : C.CountsAnswer) → counts-outcome x ≡ counts-outcome y → x ≡ y
+counts-once = one-to-one counts-outcome counts-back counts-told
 
 data-back : Outcome (Found Counts ℕ) → D.DataAnswer
 data-back (answer r) = D.the-variants.Got (r .item) (r .next)

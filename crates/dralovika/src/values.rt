@@ -3,7 +3,8 @@
 ghost use mathlib.Core.Path.{_≡_};
 ghost use Rattle.value_readers.specs.Bodies.{arrayOf, arrayValueOf, bodyOf, bodyElementOf};
 ghost use Rattle.value_readers.specs.Statics.{staticCount, staticValue};
-ghost use Rattle.answer_rows.specs.Words.{told, number-words, array-words, body-words, value-words, element-words};
+ghost use Rattle.static_fields.specs.Pairing.{staticField, wrongKind};
+ghost use Rattle.answer_rows.specs.Words.{told, told-if, number-words, array-words, body-words, value-words, element-words, static-words, wrong-words};
 
 // How many values the array at a place has, and its length in bytes.
 #[no_mangle]
@@ -52,4 +53,20 @@ pub extern "C" fn dralovika_static_value(f: &[u8], c: u32, k: u32, out: &mut [u6
     ensures { λ _. ⌜ now (out .exit) ≡ told value-words (staticValue (now (f .entry)) c k) ⌝ }
 {
     *out = answer_rows::picked_row(dex::static_value(f, c, k));
+}
+
+// Static field k of class c with its value.
+#[no_mangle]
+pub extern "C" fn dralovika_static_field(f: &[u8], c: u32, k: u32, out: &mut [u64; 20])
+    ensures { λ _. ⌜ now (out .exit) ≡ told-if static-words (staticField (now (f .entry)) c k) ⌝ }
+{
+    *out = answer_rows::static_row(dex::static_field(f, c, k));
+}
+
+// The first static field of class c whose value has the wrong kind.
+#[no_mangle]
+pub extern "C" fn dralovika_wrong_kind(f: &[u8], c: u32, out: &mut [u64; 20])
+    ensures { λ _. ⌜ now (out .exit) ≡ told-if wrong-words (wrongKind (now (f .entry)) c) ⌝ }
+{
+    *out = answer_rows::wrong_row(dex::wrong_kind(f, c));
 }

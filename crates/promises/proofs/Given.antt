@@ -27,8 +27,10 @@ use Rattle.promises.specs.Given.{ClassAnswered, ReadersAnswer}
 use Rattle.promises.proofs.Whole.{file-exact}
 use Rattle.promises.proofs.Tables.{headed, tables-agree}
 use Rattle.promises.proofs.Methods.{methods-agree}
+use Rattle.promises.specs.Statics.{fields-of}
 use Rattle.promises.proofs.Annotations.{annotations-agree}
 use Rattle.promises.proofs.Values.{values-agree}
+use Rattle.promises.proofs.Statics.{field-answers, kind-answers}
 use Rattle.promises.proofs.InRange.{String, Kind, DataIndices}
 use Rattle.promises.proofs.Indices.{indices}
 use Rattle.promises.proofs.Numbers.{each-number, leads-to, is-there, of-there, if-given-then}
@@ -73,6 +75,8 @@ module _ (f : List ℕ) {r : File} (reads : Reads f r) where
         static-array = leads-to (rule .values) (λ l e q.
             let top = values .top-array at e in
             (_, record { array = top .size; array-value = each-number l (λ k v w. top .value k ∙ bind-answer _ (pick-there w)) }));
+        static-field = each-number (fields-of (b .members)) (λ k m q. field-answers f reads at k m q);
+        wrong-kind = kind-answers f reads at;
       }
 
 pub readers-answer : (f : List ℕ) {r : File} → Reads f r → ReadersAnswer f r

@@ -8,6 +8,7 @@ pub mod Ruled
 pub mod Methods
 pub mod Annotations
 pub mod Values
+pub mod Statics
 pub mod ValueIndices
 pub mod Numbers
 pub mod FromRules

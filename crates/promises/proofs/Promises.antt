@@ -22,6 +22,7 @@ use Rattle.promises.proofs.Tables.{tables-agree}
 use Rattle.promises.proofs.Methods.{methods-agree}
 use Rattle.promises.proofs.Annotations.{annotations-agree}
 use Rattle.promises.proofs.Values.{values-agree}
+use Rattle.promises.proofs.Statics.{statics-agree}
 use Rattle.promises.proofs.Given.{readers-answer}
 
 module _ (f : List ℕ) {r : File} (reads : Reads f r) where
@@ -41,6 +42,6 @@ promises f =
       strings-distinct = λ {r} p m n e. bytes-distinct f (r .header) (p .strings) m n e;
       types-distinct = λ {r} p m n. I.types-distinct f (plain-frame (r .header)) (r .header .types .offset) (p .types) m n refl;
       readers-answer = λ p. readers-answer f p;
-      readers-agree = λ p. record { tables = tables-agree f p; methods = methods-agree f p; annotations = annotations-agree f p; values = values-agree f p };
+      readers-agree = λ p. record { tables = tables-agree f p; methods = methods-agree f p; annotations = annotations-agree f p; values = values-agree f p; statics = statics-agree f p };
       lookup-exactly = λ text p. finds f p text;
     }

@@ -4,6 +4,7 @@
 use Prim.Native.Nat.{ℕ, _-_, _≤_, _<_}
 use mathlib.Core.Path.{_≡_}
 use mathlib.Core.Bool.{true}
+use mathlib.Core.Option.{some}
 use mathlib.Core.List.{List}
 use lib.ListN.{length}
 use Rattle.refusal.specs.Outcome.{answer}
@@ -22,11 +23,13 @@ use Rattle.class_readers.specs.Members.{classData}
 use Rattle.directory_readers.specs.Directories as D
 use Rattle.set_readers.specs.Sets.{classSet, annotationCount, annotationPlace}
 use Rattle.value_readers.specs.Statics.{staticCount, staticValue}
+use Rattle.static_fields.specs.Pairing.{StaticField, staticField, wrongKind}
 use Rattle.class_walk.specs.Classes.{ClassBelow}
 use Rattle.whole_check.specs.File.{File, checkAt}
 use Rattle.promises.specs.Tables.{listed}
 use Rattle.promises.specs.Annotations.{under, head-of}
 use Rattle.promises.specs.Values.{ValueIn}
+use Rattle.promises.specs.Statics.{fields-of}
 use Rattle.promises.specs.Numbers.{Answers, EachIn, There, LeadsTo, If-given, none-or, flag-count}
 use Rattle.promises.specs.RowsAnswered.{StringAnswered, TypeAnswered, TypesAnswered, ProtoAnswered, FieldAnswered, MethodAnswered, HandleAnswered}
 use Rattle.promises.specs.ValuesAnswered.{ArrayAnswered, IndexAnswered, AnnotationBodyAnswered}
@@ -59,6 +62,9 @@ pub record ClassAnswered (f : List ℕ) (r : File) (n : ℕ) : Type 0 where
   pub static-value-count : staticCount f n ≡ answer (length (listed (row .values)))
   pub static-value : EachIn (listed (row .values)) (λ k v. staticValue f n k ≡ answer (shown v))
   pub static-array : LeadsTo (row .own .values) (row .values) (λ l. (bytes : ℕ) × ArrayAnswered f (row .own .values) bytes l)
+  -- ---- static fields with their values: each number below their count
+  pub static-field : EachIn (fields-of (row .members)) (λ k m. (a : StaticField) × (staticField f n k ≡ answer (some a)))
+  pub wrong-kind : Answers (wrongKind f n)
 
 pub record ReadersAnswer (f : List ℕ) (r : File) : Type 0 where
   -- ---- with no number

@@ -4,6 +4,7 @@ pub mod Methods
 pub mod Numbers
 pub mod Annotations
 pub mod Values
+pub mod Statics
 pub mod RowsAnswered
 pub mod ValuesAnswered
 pub mod AnnotationsAnswered

@@ -45,8 +45,11 @@ fn note_row(f: &[u8], q: Question) -> [u64; 20] {
     if q.reader < 48 {
         return notes::place_row(f, q);
     }
-    if q.reader < 56 {
+    if q.reader < 54 {
         return values::row(f, q.reader, q.a as usize, q.b);
+    }
+    if q.reader < 56 {
+        return values::static_row(f, q.reader, q.a, q.b);
     }
     items::row(f, q)
 }

@@ -1,4 +1,4 @@
-// Readers 48 to 53: the body or the annotation item at a place.
+// Readers 48 to 53: the body or the annotation item at a place; 54 and 55: static fields with their values.
 pub(crate) fn row(f: &[u8], reader: u8, place: usize, k: u32) -> [u64; 20] {
     if reader == 49 {
         return answer_rows::picked_row(dex::array_value(f, place, k));
@@ -16,6 +16,13 @@ pub(crate) fn row(f: &[u8], reader: u8, place: usize, k: u32) -> [u64; 20] {
         return answer_rows::element_row(dex::annotation_element(f, place, k));
     }
     answer_rows::array_row(dex::array(f, place))
+}
+
+pub(crate) fn static_row(f: &[u8], reader: u8, c: u32, k: u32) -> [u64; 20] {
+    if reader == 54 {
+        return answer_rows::static_row(dex::static_field(f, c, k));
+    }
+    answer_rows::wrong_row(dex::wrong_kind(f, c))
 }
 
 // The reader for a step into a nested value: 255 asks for the body's size, any other number for that value or element.

@@ -4,7 +4,7 @@ use mathlib.Core.Bool.{Bool}
 use mathlib.Core.Option.{Option, none, some}
 use Rattle.refusal.specs.Outcome.{Outcome, answer, refused}
 use Rattle.refusal.specs.Rows.{Found}
-use Rattle.decoded_value.specs.Shown.{value-shown}
+use Rattle.decoded_value.specs.Shown.{Shown, value-shown}
 use Rattle.static_fields.specs.Pairing.{StaticField, WrongKind}
 use Rattle.static_fields.specs.declared.StaticFieldAnswer as S
 use Rattle.static_fields.specs.declared.WrongKindAnswer as W
@@ -13,9 +13,12 @@ use Rattle.static_fields.specs.declared.FitsNextAnswer as N
 use Rattle.static_fields.specs.declared.KindAnswer as K
 use Rattle.static_fields.specs.declared.BeginAnswer as B
 
+abbrev pub as-field : ℕ → ℕ → Bool → Shown → StaticField
+as-field n l s v = record { field = n; flags = l; stored = s; value = v }
+
 abbrev pub maybe-field : S.StaticFieldAnswer → Outcome (Option StaticField)
 maybe-field S.the-variants.Absent = answer none
-maybe-field (S.the-variants.Got n l s v) = answer (some (record { field = n; flags = l; stored = s; value = value-shown v }))
+maybe-field (S.the-variants.Got n l s v) = answer (some (as-field n l s (value-shown v)))
 maybe-field (S.the-variants.Refused r) = refused r
 
 abbrev pub maybe-wrong : W.WrongKindAnswer → Outcome (Option WrongKind)
