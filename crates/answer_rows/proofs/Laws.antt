@@ -5,7 +5,7 @@ use mathlib.Core.Path.{_≡_, ap, sym, _∙_}
 use mathlib.Core.Bool.{Bool, cond}
 use mathlib.Core.Option.{Option}
 use mathlib.Core.List.{List, [], _∷_}
-use lib.ListN.{length, set}
+use lib.ListN.{set}
 use lib.IntN.{ℤ}
 use mir.Syntax.{Width}
 use mir.Val.{SFits, toZ, ofZ}
@@ -76,10 +76,7 @@ pub paired-by : (v : Value) (field flags : ℕ) (stored : Bool) {x : ℕ} {y : L
     → set (set y 5 flags) 6 x ≡ row (0 ∷ static-words (as-field field flags stored (value-shown v)))
 paired-by v field flags stored e q = λ i. set (set (q i) 5 flags) 6 (e i)
 
-pub long-row : (v : Value) (field : ℕ) {y : List ℕ} → y ≡ row (0 ∷ named-words (value-shown v) field) → length y ≡ 20
-long-row v field q = ap length q
-
-pub ruleset laws = (shown-by, numbered-by, signed-by, paired-by, long-row, needs)
+pub ruleset laws = (shown-by, numbered-by, signed-by, paired-by, needs)
 
 -- ---- rows: the arm that was taken says which answer it is
 pub arm : {X A : Type 0} (means : X → Outcome A) (words : A → List ℕ) (x c : X) {y : List ℕ} → x ≡ c → y ≡ told words (means c) → y ≡ told words (means x)
