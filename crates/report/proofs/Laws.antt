@@ -287,6 +287,22 @@ module _ {text out after : List ℕ} {n : ℕ} (s : Stored text 0 out after n) w
       let long : length text ≡ n - 0 = let z = s .ends in omega arith in
       ap (λ (l : List ℕ). take (n - 0) l) (s .content ∙ at-front) ∙ take-at text (drop (length text) out) (n - 0) long
 
+-- digits that were made in a room of their own, and handed out
+pub digits-fit : (n : ℕ) (room : List ℕ) → Fits w64 n → 20 ≤ length room → 0 + length (decimal n) ≤ length room
+digits-fit n room f h = let z = digits-of-64 n (f .fits) in omega arith
+
+module _ {text room made : List ℕ} {n : ℕ} (s : Stored text 0 room made n) where
+  pub made-end : n ≤ length made
+  made-end = let z = s .ends in let y = s .room in let x = stored-long s in omega arith
+
+  pub made-answer : {said : Outcome ℕ} (k : ℕ) → said ≡ written (take (n - 0) (drop 0 made)) k → said ≡ written text k
+  made-answer k e = e ∙ ap (λ (t : List ℕ). written t k) (stored-cut s)
+
+  pub made-content : {after : List ℕ} (out : List ℕ) → after ≡ content (take (n - 0) (drop 0 made)) out → after ≡ content text out
+  made-content out e = e ∙ ap (λ (t : List ℕ). content t out) (stored-cut s)
+
+pub ruleset number-laws = (digits-fit, made-end, made-answer, made-content, needs)
+
 -- a report that was made in a room of its own, and handed out
 module _ {ls : List Line} {room made : List ℕ} {n : ℕ} (s : Rows ls 0 room made n) where
   pub report-answer : {said : Outcome ℕ} (k : ℕ) → said ≡ written (take (n - 0) (drop 0 made)) k → said ≡ written (lines ls) k
