@@ -14,6 +14,7 @@ use native.Mathlib.Omega.{arith}
 use mir.Syntax.{w8, w64}
 use mir.Val.{Fits}
 use Rattle.refusal.specs.Refusals.{no-room}
+use Rattle.refusal.specs.declared.Refusal.{Refusal}
 use Rattle.refusal.specs.Outcome.{Outcome, answer, refused, _>>=_}
 use Rattle.refusal.proofs.Laws.{said, passes, fails}
 use Rattle.access_flags.specs.declared.FlagsAnswer.{FlagsAnswer}
@@ -139,9 +140,9 @@ module _ {class : Bool} {value : ℕ} {out₀ out : List ℕ} {p i v left : ℕ}
 
 -- ---- the writer's two ways
 module _ (class : Bool) (value : ℕ) (out : List ℕ) {n : ℕ} (e : n ≡ length (flags class value)) where
-  pub short-answer : length out < n → refused no-room ≡ written class value (length out)
+  pub short-answer : {r : Refusal} → length out < n → r ≡ no-room → refused r ≡ written class value (length out)
   unfolding written
-  short-answer h = fails _ (lt-leb (length (flags class value)) (length out) (let z = e in omega arith))
+  short-answer h made = fails _ made (lt-leb (length (flags class value)) (length out) (let z = e in omega arith))
 
   pub short-content : length out < n → out ≡ content class value out
   unfolding content

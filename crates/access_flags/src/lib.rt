@@ -84,10 +84,7 @@ pub fn flags_into(value: u32, class: bool, out: &mut [u8]) -> FlagsAnswer
 {
     let n = count_of(value, class);
     if out.len() < n {
-        return FlagsAnswer::Refused(Refusal {
-            number: 19,
-            place: 0,
-        });
+        return FlagsAnswer::Refused(refusal::no_room());
     }
     fill(value, class, out);
     FlagsAnswer::Got(n)

@@ -14,7 +14,7 @@ use Rattle.refusal.specs.Refusals.{not-there, runs-past}
 use Rattle.refusal.specs.declared.Refusal.{Refusal}
 use Rattle.refusal.specs.Outcome.{Outcome, answer, refused, _>>=_, accepted}
 use Rattle.refusal.specs.Rows.{Found, past}
-use Rattle.refusal.proofs.Laws.{said, calls, tests, bind-answer, bind-refused, passes, fails}
+use Rattle.refusal.proofs.Laws.{said, calls, tests, bind-answer, bind-refused, refused-by, passes, fails}
 use Rattle.refusal.proofs.Each.{at-below}
 use Rattle.refusal.specs.Answers.{checked-outcome}
 use Rattle.refusal.proofs.Kept.{on-checked, accepted-answer, accepted-refused, part-answer, part-refused}
@@ -80,9 +80,9 @@ module _ {entry : ℕ → Outcome DirectoryEntry} {s : List ℕ} {width from cou
 
 -- ---- one of the three lists
 module _ (s : List ℕ) (f : Frame) (item limit from count : ℕ) {b : Bool} (room : b ≡ leb (from + 8 * count) (length s)) where
-  pub list-long : b ≡ false → refused (runs-past item) ≡ listPast s f item limit from count
+  pub list-long : {r : Refusal} → b ≡ false → r ≡ runs-past item → refused r ≡ listPast s f item limit from count
   unfolding listAt fixedAt
-  list-long q = sym (bind-refused past (bind-refused _ (sym (fails _ (sym room ∙ q)))))
+  list-long q made = sym (bind-refused past (bind-refused _ (sym (fails _ made (sym room ∙ q)))))
 
   entered : b ≡ true → fixedAt s item (entryAt s f item limit) 8 from count ≡ entriesFrom (entryAt s f item limit) 8 from count
   unfolding fixedAt
@@ -192,9 +192,9 @@ module _ (s : List ℕ) (f : Frame) (item : ℕ) where
             (one-list (whole .0) obeys list)
 
         module _ {n : ℕ} (size : n ≡ countOf h list) where
-          pub entry-none : n ≤ k → refused not-there ≡ directoryEntry s f item list k
+          pub entry-none : {r : Refusal} → n ≤ k → r ≡ not-there → refused r ≡ directoryEntry s f item list k
           unfolding directoryEntry
-          entry-none q = let z = rule .entries .count in sym (bind-answer _ (whole .1 .0) ∙ pick-none (listOf (whole .0) list) k (omega arith))
+          entry-none q made = let z = rule .entries .count in refused-by made ∙ sym (bind-answer _ (whole .1 .0) ∙ pick-none (listOf (whole .0) list) k (omega arith))
 
           module _ (q : k < n) {b : ℕ} (start : b ≡ beforeOf h list) where
             pub entry-inside : item + 16 + 8 * (b + k) + 8 ≤ length s

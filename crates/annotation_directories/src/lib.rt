@@ -65,10 +65,7 @@ fn head_at(s: &[u8], frame: Frame, item: usize) -> DirectoryHeadAnswer
             if frame::is_allowed_or_absent(frame.start, s.len(), true, set as usize) {
                 return counts_at(s, frame, item, set);
             }
-            DirectoryHeadAnswer::Refused(Refusal {
-                number: 8,
-                place: item,
-            })
+            DirectoryHeadAnswer::Refused(refusal::wrong_offset(item))
         }
     }
 }
@@ -85,15 +82,9 @@ fn entry_at(s: &[u8], frame: Frame, item: usize, limit: u32, at: usize) -> Direc
         if frame::is_allowed(frame.start, s.len(), true, offset as usize) {
             return DirectoryEntryAnswer::Got { index, offset };
         }
-        return DirectoryEntryAnswer::Refused(Refusal {
-            number: 8,
-            place: item,
-        });
+        return DirectoryEntryAnswer::Refused(refusal::wrong_offset(item));
     }
-    DirectoryEntryAnswer::Refused(Refusal {
-        number: 11,
-        place: item,
-    })
+    DirectoryEntryAnswer::Refused(refusal::wrong_index(item))
 }
 
 // All entries from a place on, which lie within the slice.
@@ -142,10 +133,7 @@ fn list_past(s: &[u8], frame: Frame, item: usize, limit: u32, from: usize, count
             }
         }
     }
-    StepAnswer::Refused(Refusal {
-        number: 9,
-        place: item,
-    })
+    StepAnswer::Refused(refusal::runs_past(item))
 }
 
 // Fields, methods and parameters in turn.
@@ -249,10 +237,7 @@ pub fn directory_entry(
                     item + 16 + 8 * (before + k as usize),
                 );
             }
-            DirectoryEntryAnswer::Refused(Refusal {
-                number: 7,
-                place: 0,
-            })
+            DirectoryEntryAnswer::Refused(refusal::not_there())
         }
     }
 }

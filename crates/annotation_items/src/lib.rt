@@ -29,19 +29,13 @@ fn visibility_at(s: &[u8], item: usize) -> VisibilityAnswer
     ensures { λ r. ⌜ visibility-outcome r ≡ visibilityAt (now (s .entry)) item ⌝ }
 {
     if s.len() <= item {
-        return VisibilityAnswer::Refused(Refusal {
-            number: 9,
-            place: item,
-        });
+        return VisibilityAnswer::Refused(refusal::runs_past(item));
     }
     let visibility = s[item];
     if visibility <= 2 {
         return VisibilityAnswer::Got(visibility);
     }
-    VisibilityAnswer::Refused(Refusal {
-        number: 18,
-        place: item,
-    })
+    VisibilityAnswer::Refused(refusal::unknown_kind(item))
 }
 
 // The annotation item at a place, gone over whole: its visibility.

@@ -13,7 +13,7 @@ use mir.Val.{Fits}
 use Rattle.refusal.specs.Refusals.{not-there, runs-past}
 use Rattle.refusal.specs.declared.Refusal.{Refusal}
 use Rattle.refusal.specs.Outcome.{Outcome, answer, refused, _>>=_, accepted}
-use Rattle.refusal.proofs.Laws.{said, calls, tests, bind-answer, bind-refused, passes, fails}
+use Rattle.refusal.proofs.Laws.{said, calls, tests, bind-answer, bind-refused, refused-by, passes, fails}
 use Rattle.refusal.specs.Answers.{checked-outcome}
 use Rattle.refusal.proofs.Kept.{accepted-answer, accepted-refused, part-answer, part-refused}
 use Rattle.refusal.proofs.Exact.{answers-equal, never}
@@ -68,9 +68,9 @@ module _ (s : List ℕ) (f : Frame) (item : ℕ) (absent four : Bool) where
       unfolding offsetsAt
       past-size = bind-answer _ (sym e ∙ ap word-outcome t)
 
-      pub count-long : b ≡ false → refused (runs-past item) ≡ offsetCount s f item absent four
+      pub count-long : {r : Refusal} → b ≡ false → r ≡ runs-past item → refused r ≡ offsetCount s f item absent four
       unfolding offsetCount fixedAt
-      count-long q = sym (bind-refused _ (past-size ∙ sym (fails _ (sym room ∙ q))))
+      count-long q made = sym (bind-refused _ (past-size ∙ sym (fails _ made (sym room ∙ q))))
 
       entered : b ≡ true → offsetsAt s f item absent four ≡ entriesFrom (offsetAt s f item absent four) 4 (item + 4) n
       unfolding fixedAt
@@ -106,9 +106,9 @@ module _ (s : List ℕ) (f : Frame) (item : ℕ) (absent four : Bool) where
       count-room = let a = whole .1 .1 in let b = rule .offsets .entries .count in let c = rule .offsets .room in omega arith
 
       module _ (k : ℕ) where
-        pub number-none : n ≤ k → refused not-there ≡ offsetNumber s f item absent four k
+        pub number-none : {r : Refusal} → n ≤ k → r ≡ not-there → refused r ≡ offsetNumber s f item absent four k
         unfolding offsetNumber
-        number-none h = let z = whole .1 .1 in sym (bind-answer _ (whole .1 .0) ∙ pick-none (whole .0) k (omega arith))
+        number-none h made = let z = whole .1 .1 in refused-by made ∙ sym (bind-answer _ (whole .1 .0) ∙ pick-none (whole .0) k (omega arith))
 
         module _ (h : k < n) where
           below-count : k < u32At (f .order) s item

@@ -25,10 +25,7 @@ pub fn word_at(s: &[u8], frame: Frame, item: usize, at: usize) -> WordAnswer
     if word::has_room(s.len(), at, 4) {
         return WordAnswer::Got(word::u32_at(s, at, order));
     }
-    WordAnswer::Refused(Refusal {
-        number: 9,
-        place: item,
-    })
+    WordAnswer::Refused(refusal::runs_past(item))
 }
 
 // May an item lie at this offset.
@@ -50,10 +47,7 @@ fn offset_at(s: &[u8], frame: Frame, item: usize, absent: bool, four: bool, at: 
     if is_offset(frame.start, s.len(), absent, four, offset as usize) {
         return WordAnswer::Got(offset);
     }
-    WordAnswer::Refused(Refusal {
-        number: 8,
-        place: item,
-    })
+    WordAnswer::Refused(refusal::wrong_offset(item))
 }
 
 // All offsets from a place on, which lie within the slice.
@@ -103,10 +97,7 @@ pub fn offset_count(s: &[u8], frame: Frame, item: usize, absent: bool, four: boo
                     }
                 }
             }
-            WordAnswer::Refused(Refusal {
-                number: 9,
-                place: item,
-            })
+            WordAnswer::Refused(refusal::runs_past(item))
         }
     }
 }
@@ -128,10 +119,7 @@ fn offset_number(
             if k < count {
                 return offset_at(s, frame, item, absent, four, item + 4 + 4 * k as usize);
             }
-            WordAnswer::Refused(Refusal {
-                number: 7,
-                place: 0,
-            })
+            WordAnswer::Refused(refusal::not_there())
         }
     }
 }

@@ -10,6 +10,7 @@ use borrow.Author.Needs.{needs}
 use borrow.Author.Tests.{lt-ltb, le-ltb}
 use native.Mathlib.Omega.{arith}
 use Rattle.refusal.specs.Refusals.{not-there}
+use Rattle.refusal.specs.declared.Refusal.{Refusal}
 use Rattle.refusal.specs.Outcome.{Outcome, answer, refused, _>>=_, given}
 use Rattle.refusal.specs.Rows.{Found}
 use Rattle.refusal.proofs.Laws.{said, tests, calls, bind-answer, passes, fails}
@@ -163,8 +164,8 @@ module _ (list k : ℕ) (c : Counts) (m : KeptMembers) {n : ℕ} (e : n ≡ coun
   pub member-there : {a : Member} → k < n → a ≡ memberIn list m → answer a ≡ given (ltb k (countIn list c)) not-there (answer (memberIn list m))
   member-there p q = passes not-there (lt-ltb k (countIn list c) (omega arith)) (ap answer q)
 
-  pub member-lacks : n ≤ k → refused not-there ≡ given (ltb k (countIn list c)) not-there (answer (memberIn list m))
-  member-lacks p = fails _ (le-ltb k (countIn list c) (omega arith))
+  pub member-lacks : {r : Refusal} → n ≤ k → r ≡ not-there → refused r ≡ given (ltb k (countIn list c)) not-there (answer (memberIn list m))
+  member-lacks p made = fails _ made (le-ltb k (countIn list c) (omega arith))
 
 -- ---- what this crate's functions are searched with
 pub ruleset part-laws = (on-leb, on-found, on-pair, calls, tests, needs)

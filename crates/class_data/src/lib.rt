@@ -334,10 +334,7 @@ pub fn member_at(s: &[u8], frame: Frame, item: usize, list: u32, k: u32) -> Memb
             if k < count {
                 return MemberAnswer::Got(member_in(list, members));
             }
-            MemberAnswer::Refused(Refusal {
-                number: 7,
-                place: 0,
-            })
+            MemberAnswer::Refused(refusal::not_there())
         }
     }
 }

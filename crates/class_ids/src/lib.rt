@@ -101,11 +101,11 @@ fn places_of(start: usize, end: usize, place: usize, w: ClassWords) -> ClassAnsw
             if frame::is_allowed_or_absent(start, end, false, w.values as usize) {
                 return ClassAnswer::Got(class_of(w));
             }
-            return ClassAnswer::Refused(Refusal { number: 8, place });
+            return ClassAnswer::Refused(refusal::wrong_offset(place));
         }
-        return ClassAnswer::Refused(Refusal { number: 8, place });
+        return ClassAnswer::Refused(refusal::wrong_offset(place));
     }
-    ClassAnswer::Refused(Refusal { number: 8, place })
+    ClassAnswer::Refused(refusal::wrong_offset(place))
 }
 
 // The rules of the words before those: interfaces, source file.
@@ -116,9 +116,9 @@ fn middle_of(frame: Frame, end: usize, place: usize, w: ClassWords) -> ClassAnsw
         if is_index_or_none(w.source, frame.strings) {
             return places_of(frame.start, end, place, w);
         }
-        return ClassAnswer::Refused(Refusal { number: 11, place });
+        return ClassAnswer::Refused(refusal::wrong_index(place));
     }
-    ClassAnswer::Refused(Refusal { number: 8, place })
+    ClassAnswer::Refused(refusal::wrong_offset(place))
 }
 
 // The rules of the words in stored order: class, superclass, then the others.
@@ -126,12 +126,12 @@ fn first_of(frame: Frame, end: usize, place: usize, w: ClassWords) -> ClassAnswe
     ensures { λ a. ⌜ class-outcome a ≡ firstOf frame end place w ⌝ }
 {
     if frame.types <= w.class {
-        return ClassAnswer::Refused(Refusal { number: 11, place });
+        return ClassAnswer::Refused(refusal::wrong_index(place));
     }
     if is_index_or_none(w.superclass, frame.types) {
         return middle_of(frame, end, place, w);
     }
-    ClassAnswer::Refused(Refusal { number: 11, place })
+    ClassAnswer::Refused(refusal::wrong_index(place))
 }
 
 // Class n of the table that begins at an offset.

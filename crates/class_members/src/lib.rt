@@ -48,10 +48,7 @@ fn offset_at(s: &[u8], start: usize, item: usize, at: usize) -> LebAnswer
             if frame::is_allowed_or_absent(start, s.len(), true, value as usize) {
                 return LebAnswer::Got { value, next };
             }
-            LebAnswer::Refused(Refusal {
-                number: 8,
-                place: item,
-            })
+            LebAnswer::Refused(refusal::wrong_offset(item))
         }
     }
 }
@@ -104,15 +101,9 @@ pub fn member_found(
                 if index < j.limit as u64 {
                     return rest_at(s, j, item, index as u32, next);
                 }
-                return MemberFoundAnswer::Refused(Refusal {
-                    number: 11,
-                    place: item,
-                });
+                return MemberFoundAnswer::Refused(refusal::wrong_index(item));
             }
-            MemberFoundAnswer::Refused(Refusal {
-                number: 15,
-                place: item,
-            })
+            MemberFoundAnswer::Refused(refusal::out_of_order(item))
         }
     }
 }

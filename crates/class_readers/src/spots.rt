@@ -6,7 +6,6 @@ use class_ids::ClassAnswer;
 use code_item::CodeAnswer;
 use header::Header;
 use header::HeaderAnswer;
-use refusal::Refusal;
 ghost use mathlib.Core.Path.{_≡_};
 ghost use Rattle.class_readers.specs.Spots.{spotAt, dataIn, dataSpot, methodUnder, methodSpot, debugUnder, debugSpot};
 ghost use Rattle.class_readers.specs.Answers.{spot-outcome};
@@ -60,10 +59,7 @@ fn method_under(f: &[u8], spot: Spot, list: u32, k: u32) -> SpotAnswer
             if 2 <= list {
                 return spot_of(header, m.code);
             }
-            SpotAnswer::Refused(Refusal {
-                number: 7,
-                place: 0,
-            })
+            SpotAnswer::Refused(refusal::not_there())
         }
     }
 }

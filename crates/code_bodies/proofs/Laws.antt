@@ -13,7 +13,7 @@ use Rattle.refusal.specs.Refusals.{wrong-code}
 use Rattle.refusal.specs.declared.Refusal.{Refusal}
 use Rattle.refusal.specs.Outcome.{answer, refused, _>>=_}
 use Rattle.refusal.specs.Rows.{Found}
-use Rattle.refusal.proofs.Laws.{tests, bind-answer, bind-refused, passes, fails, picks, leaves}
+use Rattle.refusal.proofs.Laws.{tests, bind-answer, bind-refused, refused-by, passes, fails, picks, leaves}
 use Rattle.refusal.proofs.Choose.{Choosing, choosing-first, choosing-next, choosing-stop, choosing-done}
 use Rattle.word.specs.Words.{u16At, u32At}
 use Rattle.word.specs.declared.Endian.{Endian}
@@ -49,9 +49,9 @@ module _ {o : Endian} {s : List ℕ} {units item from count k left place floor i
       room = let z = h .room in omega arith;
     }
 
-    pub trying-stop : b ≡ false → refused (wrong-code item) ≡ keptTry o s units item from count k
+    pub trying-stop : {r : Refusal} → b ≡ false → r ≡ wrong-code item → refused r ≡ keptTry o s units item from count k
     unfolding keptTry stepAt judged
-    trying-stop e = sym (bind-refused item-alone (sym (choosing-stop (h .choosing) l (fails _ (sym asked ∙ e) ∙ ap (judged units item (record { place = place; floor = floor })) read))))
+    trying-stop e made = sym (bind-refused item-alone (sym (choosing-stop (h .choosing) l (fails _ made (sym asked ∙ e) ∙ ap (judged units item (record { place = place; floor = floor })) read))))
 
   pub trying-done : left ≤ 0 → answer keep ≡ keptTry o s units item from count k
   unfolding keptTry
@@ -105,9 +105,9 @@ module _ {o : Endian} {s : List ℕ} {j : HandlerJudge} {first handlers from cou
   unfolding keptLink walkAt
   stopped e = sym (bind-refused item-alone (sym (choosing-stop (h .linking .choosing) (h .some-left) (sym (bind-refused _ (h .same ∙ e))))))
 
-  pub starting-none : unseen ≤ 0 → refused (wrong-code (j .item)) ≡ keptLink o s j first handlers from count k
+  pub starting-none : {r : Refusal} → unseen ≤ 0 → r ≡ wrong-code (j .item) → refused r ≡ keptLink o s j first handlers from count k
   unfolding linkFrom
-  starting-none q = stopped (go unseen q)
+  starting-none q made = refused-by made ∙ stopped (go unseen q)
     where
       go : (n : ℕ) → n ≤ 0 → linkFrom s j (u16At o s (place + 6)) n p number ≡ refused (wrong-code (j .item))
       go zero q = refl

@@ -164,20 +164,20 @@ module _ (s : List ℕ) (f : Frame) (item : ℕ) where
 
 -- ---- what follows the head
 module _ (s : List ℕ) (f : Frame) (item : ℕ) (head : CodeHead) (t h k : ℕ) where
-  too-long : length s < item + (bodySize head + 8 * head .tries) → refused (runs-past item) ≡ bodyStage s f item head t h k
+  too-long : {r : Refusal} → length s < item + (bodySize head + 8 * head .tries) → r ≡ runs-past item → refused r ≡ bodyStage s f item head t h k
   unfolding bodyStage
-  too-long p = fails _ (lt-leb (item + (bodySize head + 8 * head .tries)) (length s) p)
+  too-long p made = fails _ made (lt-leb (item + (bodySize head + 8 * head .tries)) (length s) p)
 
-  pub body-low : length s < item → refused (runs-past item) ≡ bodyStage s f item head t h k
-  body-low p = too-long (omega arith)
+  pub body-low : {r : Refusal} → length s < item → r ≡ runs-past item → refused r ≡ bodyStage s f item head t h k
+  body-low p made = too-long (omega arith) made
 
   module _ {body : ℕ} (e : body ≡ bodySize head) (p : item ≤ length s) where
-    pub body-short : length s - item < body → refused (runs-past item) ≡ bodyStage s f item head t h k
-    body-short q = too-long (omega arith)
+    pub body-short : {r : Refusal} → length s - item < body → r ≡ runs-past item → refused r ≡ bodyStage s f item head t h k
+    body-short q made = too-long (omega arith) made
 
     module _ (q : body ≤ length s - item) where
-      pub body-long : length s - item - body < 8 * head .tries → refused (runs-past item) ≡ bodyStage s f item head t h k
-      body-long r = too-long (omega arith)
+      pub body-long : {r : Refusal} → length s - item - body < 8 * head .tries → r ≡ runs-past item → refused r ≡ bodyStage s f item head t h k
+      body-long r made = too-long (omega arith) made
 
       pub body-by : {y : Outcome KeptCode} → 8 * head .tries ≤ length s - item - body
           → y ≡ partsStage s (f .order) (record { types = f .types; units = head .units; item = item; base = item + body + 8 * head .tries }) head (item + body) t h k → y ≡ bodyStage s f item head t h k

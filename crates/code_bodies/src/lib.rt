@@ -121,10 +121,7 @@ fn tries_found(
             kept = newer_try(i == k, t, kept);
             floor = t.start as u64 + t.count as u64;
         } else {
-            return TryFoundAnswer::Refused(Refusal {
-                number: 17,
-                place: item,
-            });
+            return TryFoundAnswer::Refused(refusal::wrong_code(item));
         }
         place += 8;
         i += 1;
@@ -176,10 +173,7 @@ fn links_at(
             number += 1;
             unseen -= 1;
         }
-        return LinkAnswer::Refused(Refusal {
-            number: 17,
-            place: j.item,
-        });
+        return LinkAnswer::Refused(refusal::wrong_code(j.item));
     }
     LinkAnswer::Got(kept)
 }
@@ -298,22 +292,13 @@ fn body_at(
     let body = code_heads::body_size(head);
     let tries = 8 * head.tries as usize;
     if s.len() < item {
-        return KeptCodeAnswer::Refused(Refusal {
-            number: 9,
-            place: item,
-        });
+        return KeptCodeAnswer::Refused(refusal::runs_past(item));
     }
     if s.len() - item < body {
-        return KeptCodeAnswer::Refused(Refusal {
-            number: 9,
-            place: item,
-        });
+        return KeptCodeAnswer::Refused(refusal::runs_past(item));
     }
     if s.len() - item - body < tries {
-        return KeptCodeAnswer::Refused(Refusal {
-            number: 9,
-            place: item,
-        });
+        return KeptCodeAnswer::Refused(refusal::runs_past(item));
     }
     let from = item + body;
     let j = HandlerJudge {

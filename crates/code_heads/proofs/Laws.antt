@@ -9,6 +9,7 @@ use borrow.Author.Needs.{needs}
 use borrow.Author.Tests.{lt-ltb, le-ltb, le-leb, lt-leb, eq-eqb, ne-eqb}
 use native.Mathlib.Omega.{arith}
 use Rattle.refusal.specs.Refusals.{runs-past, wrong-offset}
+use Rattle.refusal.specs.declared.Refusal.{Refusal}
 use Rattle.refusal.specs.Outcome.{Outcome, answer, refused, _>>=_}
 use Rattle.refusal.proofs.Laws.{said, passes, fails}
 use Rattle.word.specs.Words.{u16At, u32At}
@@ -21,26 +22,26 @@ use Rattle.code_heads.specs.Answers.{code-head-outcome}
 
 -- ---- the head, from the values that were read
 module _ (s : List ℕ) (f : Frame) (item : ℕ) where
-  pub head-low : length s < item → refused (runs-past item) ≡ codeHeadAt s f item
+  pub head-low : {r : Refusal} → length s < item → r ≡ runs-past item → refused r ≡ codeHeadAt s f item
   unfolding codeHeadAt
-  head-low h = fails _ (lt-leb (item + 12) (length s) (omega arith))
+  head-low h made = fails _ made (lt-leb (item + 12) (length s) (omega arith))
 
   module _ (p : item ≤ length s) where
-    pub head-short : length s - item < 12 → refused (runs-past item) ≡ codeHeadAt s f item
+    pub head-short : {r : Refusal} → length s - item < 12 → r ≡ runs-past item → refused r ≡ codeHeadAt s f item
     unfolding codeHeadAt
-    head-short h = fails _ (lt-leb (item + 12) (length s) (omega arith))
+    head-short h made = fails _ made (lt-leb (item + 12) (length s) (omega arith))
 
     module _ (q : 12 ≤ length s - item) {debug : ℕ} {b : Bool} (read : debug ≡ u32At (f .order) s (item + 8)) (asked : b ≡ allowedOrAbsent (f .start) (length s) false debug) where
       there : allowedOrAbsent (f .start) (length s) false (u32At (f .order) s (item + 8)) ≡ b
       there = ap (allowedOrAbsent (f .start) (length s) false) (sym read) ∙ sym asked
 
-      pub head-outside : b ≡ false → refused (wrong-offset item) ≡ codeHeadAt s f item
+      pub head-outside : {r : Refusal} → b ≡ false → r ≡ wrong-offset item → refused r ≡ codeHeadAt s f item
       unfolding codeHeadAt
-      head-outside e = passes (runs-past item) (le-leb (item + 12) (length s) (omega arith)) (fails _ (there ∙ e))
+      head-outside e made = passes (runs-past item) (le-leb (item + 12) (length s) (omega arith)) (fails _ made (there ∙ e))
 
-      pub head-late : b ≡ true → length s - item < 16 → refused (runs-past item) ≡ codeHeadAt s f item
+      pub head-late : {r : Refusal} → b ≡ true → length s - item < 16 → r ≡ runs-past item → refused r ≡ codeHeadAt s f item
       unfolding codeHeadAt
-      head-late e h = passes (runs-past item) (le-leb (item + 12) (length s) (omega arith)) (passes (wrong-offset item) (there ∙ e) (fails _ (lt-leb (item + 16) (length s) (omega arith))))
+      head-late e h made = passes (runs-past item) (le-leb (item + 12) (length s) (omega arith)) (passes (wrong-offset item) (there ∙ e) (fails _ made (lt-leb (item + 16) (length s) (omega arith))))
 
       pub head-got : {r i u t n : ℕ} → b ≡ true → 16 ≤ length s - item → r ≡ u16At (f .order) s item → i ≡ u16At (f .order) s (item + 2) → u ≡ u16At (f .order) s (item + 4)
           → t ≡ u16At (f .order) s (item + 6) → n ≡ u32At (f .order) s (item + 12) → answer (record { registers = r; ins = i; outs = u; tries = t; debug = debug; units = n }) ≡ codeHeadAt s f item

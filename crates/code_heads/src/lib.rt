@@ -27,24 +27,15 @@ pub fn head_at(s: &[u8], frame: Frame, item: usize) -> CodeHeadAnswer
 {
     let order = frame.order;
     if s.len() < item {
-        return CodeHeadAnswer::Refused(Refusal {
-            number: 9,
-            place: item,
-        });
+        return CodeHeadAnswer::Refused(refusal::runs_past(item));
     }
     if s.len() - item < 12 {
-        return CodeHeadAnswer::Refused(Refusal {
-            number: 9,
-            place: item,
-        });
+        return CodeHeadAnswer::Refused(refusal::runs_past(item));
     }
     let debug = word::u32_at(s, item + 8, order);
     if frame::is_allowed_or_absent(frame.start, s.len(), false, debug as usize) {
         if s.len() - item < 16 {
-            return CodeHeadAnswer::Refused(Refusal {
-                number: 9,
-                place: item,
-            });
+            return CodeHeadAnswer::Refused(refusal::runs_past(item));
         }
         return CodeHeadAnswer::Got(CodeHead {
             registers: word::u16_at(s, item, order),
@@ -55,10 +46,7 @@ pub fn head_at(s: &[u8], frame: Frame, item: usize) -> CodeHeadAnswer
             units: word::u32_at(s, item + 12, order),
         });
     }
-    CodeHeadAnswer::Refused(Refusal {
-        number: 8,
-        place: item,
-    })
+    CodeHeadAnswer::Refused(refusal::wrong_offset(item))
 }
 
 // Two bytes of padding after an odd unit count, only if there are tries.

@@ -115,10 +115,7 @@ pub fn try_at(s: &[u8], frame: Frame, item: usize, t: u32) -> TryAnswer
                     number: link,
                 };
             }
-            TryAnswer::Refused(Refusal {
-                number: 7,
-                place: 0,
-            })
+            TryAnswer::Refused(refusal::not_there())
         }
     }
 }
@@ -156,10 +153,7 @@ pub fn handler_at(s: &[u8], frame: Frame, item: usize, h: u32) -> HandlerAnswer
                     all: catch_in(brief),
                 };
             }
-            HandlerAnswer::Refused(Refusal {
-                number: 7,
-                place: 0,
-            })
+            HandlerAnswer::Refused(refusal::not_there())
         }
     }
 }
@@ -172,10 +166,7 @@ fn pair_in(b: Brief, k: u32) -> PairAnswer
     if k < b.pairs {
         return PairAnswer::Got(pair);
     }
-    PairAnswer::Refused(Refusal {
-        number: 7,
-        place: 0,
-    })
+    PairAnswer::Refused(refusal::not_there())
 }
 
 // Pair k of handler h of the code item at a place.
@@ -197,10 +188,7 @@ pub fn pair_at(s: &[u8], frame: Frame, item: usize, h: u32, k: u32) -> PairAnswe
             if h < handlers {
                 return pair_in(brief, k);
             }
-            PairAnswer::Refused(Refusal {
-                number: 7,
-                place: 0,
-            })
+            PairAnswer::Refused(refusal::not_there())
         }
     }
 }

@@ -10,6 +10,7 @@ use borrow.Author.Tests.{le-leb, lt-leb}
 use native.Mathlib.Numerals.{add-one}
 use native.Mathlib.Omega.{arith}
 use Rattle.refusal.specs.Refusals.{no-room, runs-past}
+use Rattle.refusal.specs.declared.Refusal.{Refusal}
 use Rattle.refusal.specs.Outcome.{answer, refused}
 use Rattle.refusal.proofs.Laws.{passes, fails}
 use Rattle.word.specs.Words.{u16At}
@@ -63,31 +64,31 @@ module _ {o : Endian} {s : List ℕ} {start count : ℕ} {before out : List ℕ}
 
 -- ---- what `units_into` answers, and what it leaves
 module _ (o : Endian) (s : List ℕ) (start count : ℕ) (out : List ℕ) where
-  cut : length s < start + 2 * count → refused (runs-past start) ≡ intoAt (length s) start count (length out)
+  cut : {r : Refusal} → length s < start + 2 * count → r ≡ runs-past start → refused r ≡ intoAt (length s) start count (length out)
   unfolding intoAt
-  cut h = fails _ (lt-leb (start + 2 * count) (length s) h)
+  cut h made = fails _ made (lt-leb (start + 2 * count) (length s) h)
 
   uncut : length s < start + 2 * count → out ≡ leftAt o s start count out
   unfolding leftAt
   uncut h = rw (lt-leb (start + 2 * count) (length s) h)
 
-  pub into-low : length s < start → refused (runs-past start) ≡ intoAt (length s) start count (length out)
-  into-low h = cut (omega arith)
+  pub into-low : {r : Refusal} → length s < start → r ≡ runs-past start → refused r ≡ intoAt (length s) start count (length out)
+  into-low h made = cut (omega arith) made
 
   pub left-low : length s < start → out ≡ leftAt o s start count out
   left-low h = uncut (omega arith)
 
   module _ (p : start ≤ length s) where
-    pub into-cut : length s - start < 2 * count → refused (runs-past start) ≡ intoAt (length s) start count (length out)
-    into-cut h = cut (omega arith)
+    pub into-cut : {r : Refusal} → length s - start < 2 * count → r ≡ runs-past start → refused r ≡ intoAt (length s) start count (length out)
+    into-cut h made = cut (omega arith) made
 
     pub left-cut : length s - start < 2 * count → out ≡ leftAt o s start count out
     left-cut h = uncut (omega arith)
 
     module _ (q : 2 * count ≤ length s - start) where
-      pub into-short : length out < count → refused no-room ≡ intoAt (length s) start count (length out)
+      pub into-short : {r : Refusal} → length out < count → r ≡ no-room → refused r ≡ intoAt (length s) start count (length out)
       unfolding intoAt
-      into-short h = passes (runs-past start) (le-leb (start + 2 * count) (length s) (omega arith)) (fails _ (lt-leb count (length out) h))
+      into-short h made = passes (runs-past start) (le-leb (start + 2 * count) (length s) (omega arith)) (fails _ made (lt-leb count (length out) h))
 
       pub left-short : length out < count → out ≡ leftAt o s start count out
       unfolding leftAt

@@ -35,22 +35,13 @@ pub fn units_into(s: &[u8], order: Endian, start: usize, count: u32, out: &mut [
     ensures wrote { λ r. ⌜ now (out .exit) ≡ leftAt order (now (s .entry)) start count (now (out .entry)) ⌝ }
 {
     if s.len() < start {
-        return UnitsAnswer::Refused(Refusal {
-            number: 9,
-            place: start,
-        });
+        return UnitsAnswer::Refused(refusal::runs_past(start));
     }
     if s.len() - start < 2 * count as usize {
-        return UnitsAnswer::Refused(Refusal {
-            number: 9,
-            place: start,
-        });
+        return UnitsAnswer::Refused(refusal::runs_past(start));
     }
     if out.len() < count as usize {
-        return UnitsAnswer::Refused(Refusal {
-            number: 19,
-            place: 0,
-        });
+        return UnitsAnswer::Refused(refusal::no_room());
     }
     fill(s, order, start, count, out);
     UnitsAnswer::Written(count)

@@ -15,7 +15,7 @@ use Rattle.refusal.specs.declared.Refusal.{Refusal}
 use Rattle.refusal.specs.Outcome.{Outcome, answer, refused, _>>=_, given}
 use Rattle.refusal.specs.Rows.{Found, past, collect}
 use Rattle.refusal.specs.Exact.{Row, empty, first}
-use Rattle.refusal.proofs.Laws.{said, tests, calls, bind-answer, bind-refused, passes, fails, picks, leaves}
+use Rattle.refusal.proofs.Laws.{said, tests, calls, bind-answer, bind-refused, refused-by, passes, fails, picks, leaves}
 use Rattle.refusal.proofs.Rows.{bind-assoc, past-answer}
 use Rattle.refusal.proofs.Loops.{Ending, ending-first, ending-next, ending-stop, ending-full, ending-done}
 use Rattle.refusal.proofs.Choose.{Choosing, choosing-first, choosing-next, choosing-stop, choosing-done, chosen-by}
@@ -101,13 +101,13 @@ module _ {s : List ℕ} {item start p : ℕ} (h : Head s item start p) where
       let d = ending-done (h .ending) (omega arith) (passes (runs-past item) (lt-ltb p (length s) i) (leaves _ (le-ltb 0 (getD s p 0) q) refl)) in
       sym (bind-answer past (sym (d .1 .1)))
 
-  pub head-end : length s ≤ p → refused (runs-past item) ≡ zeroAt s item start
+  pub head-end : {r : Refusal} → length s ≤ p → r ≡ runs-past item → refused r ≡ zeroAt s item start
   unfolding zeroAt opcodeAt
-  head-end i = go (h .left) (h .ending)
+  head-end i made = refused-by made ∙ go (h .left) (h .ending)
     where
       go : (n : ℕ) → Ending (opcodeAt s item) (runs-past item) (programAt s item start) (λ (l : List ℕ). Unit) n p → refused (runs-past item) ≡ zeroAt s item start
       go zero e = sym (bind-refused past (sym (ending-full e (omega arith))))
-      go (suc n) e = sym (bind-refused past (sym (ending-stop e (omega arith) (fails _ (le-ltb p (length s) i)))))
+      go (suc n) e = sym (bind-refused past (sym (ending-stop e (omega arith) (fails _ refl (le-ltb p (length s) i)))))
 
 -- ---- calls, by the arm that was taken
 pub on-found : {B : Type 0} {x c : NameFoundAnswer} {o : Outcome (Found (Option ℕ) ℕ)} {y : Outcome B} (k : Found (Option ℕ) ℕ → Outcome B)

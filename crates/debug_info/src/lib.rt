@@ -71,10 +71,7 @@ fn name_found(s: &[u8], strings: u32, item: usize, at: usize) -> NameFoundAnswer
                     next,
                 };
             }
-            NameFoundAnswer::Refused(Refusal {
-                number: 11,
-                place: item,
-            })
+            NameFoundAnswer::Refused(refusal::wrong_index(item))
         }
     }
 }
@@ -128,10 +125,7 @@ fn zero_at(s: &[u8], item: usize, start: usize) -> ZeroAnswer
         }
         return ZeroAnswer::Got(p);
     }
-    ZeroAnswer::Refused(Refusal {
-        number: 9,
-        place: item,
-    })
+    ZeroAnswer::Refused(refusal::runs_past(item))
 }
 
 // The names and the line program.
@@ -214,10 +208,7 @@ pub fn name_at(s: &[u8], strings: u32, item: usize, k: u32) -> NameAnswer
             if k < names {
                 return NameAnswer::Got(name);
             }
-            NameAnswer::Refused(Refusal {
-                number: 7,
-                place: 0,
-            })
+            NameAnswer::Refused(refusal::not_there())
         }
     }
 }

@@ -95,10 +95,7 @@ pub fn entry_in(f: &[u8], header: Header, at: u32, list: u32, k: u32) -> Directo
             k,
         );
     }
-    DirectoryEntryAnswer::Refused(Refusal {
-        number: 7,
-        place: 0,
-    })
+    DirectoryEntryAnswer::Refused(refusal::not_there())
 }
 
 fn entry_of(f: &[u8], c: u32, list: u32, k: u32) -> DirectoryEntryAnswer

@@ -11,7 +11,7 @@ use Rattle.refusal.specs.Refusals.{nested-too-deep}
 use Rattle.refusal.specs.declared.Refusal.{Refusal}
 use Rattle.refusal.specs.Outcome.{Outcome, answer, refused, _>>=_}
 use Rattle.refusal.specs.Rows.{Found, past, repeat, collect}
-use Rattle.refusal.proofs.Laws.{bind-answer, bind-refused, picks, leaves, Walk as Loop, walk-next, walk-stop, walk-done}
+use Rattle.refusal.proofs.Laws.{bind-answer, bind-refused, refused-by, picks, leaves, Walk as Loop, walk-next, walk-stop, walk-done}
 use Rattle.refusal.proofs.Rows.{bind-assoc, past-collect}
 use Rattle.leb128.specs.Leb.{ulebAt}
 use Rattle.leb128.specs.Answers.{leb-outcome}
@@ -105,10 +105,10 @@ module _ (s : List ℕ) (w : Walk) where
     inside-plain n m k = k ∙ sym (ap (λ (o : Outcome (Found Tree ℕ)). o >>= past) (kind-plain (arrayAt s w left) (annotationAt s w left) h p n m))
 
   -- ---- a body that may not be opened
-  pub body-deep : (named : Bool) (left p : ℕ) → left ≤ 0 → refused (nested-too-deep (w .item)) ≡ pastBody s w named left p
+  pub body-deep : (named : Bool) (left p : ℕ) {r : Refusal} → left ≤ 0 → r ≡ nested-too-deep (w .item) → refused r ≡ pastBody s w named left p
   unfolding pastBody arrayAt annotationAt _>>=_
-  body-deep true left p l = let z : left ≡ 0 = omega arith in rw z
-  body-deep false left p l = let z : left ≡ 0 = omega arith in rw z
+  body-deep true left p l made = let z : left ≡ 0 = omega arith in rw z (refused-by made)
+  body-deep false left p l made = let z : left ≡ 0 = omega arith in rw z (refused-by made)
 
   pub named-is : (left p : ℕ) → pastNamed s w left p ≡ (indexAt s (w .item) (w .strings) p >>= λ (n : Found ℕ ℕ). pastValue s w left (n .next))
   unfolding namedWith

@@ -31,8 +31,8 @@ module _ (s : List ℕ) (item at h : ℕ) {n : ℕ} (size : n ≡ bytes-of h) {t
   pub bytes-there : t ≡ true → answer (at + n) ≡ (numberAt s item at (bytes-of h) >>= past)
   bytes-there m = sym (bind-answer past (sym (number-got s item at h size room m refl)))
 
-  pub bytes-short : t ≡ false → refused (runs-past item) ≡ (numberAt s item at (bytes-of h) >>= past)
-  bytes-short m = sym (bind-refused past (sym (number-short s item at h size room m)))
+  pub bytes-short : {r : Refusal} → t ≡ false → r ≡ runs-past item → refused r ≡ (numberAt s item at (bytes-of h) >>= past)
+  bytes-short m made = sym (bind-refused past (sym (number-short s item at h size room m made)))
 
 -- ---- a value that is no body, gone over
 -- what is made of a thing leaves the place as it is

@@ -33,10 +33,7 @@ fn bytes_past(s: &[u8], item: usize, at: usize, head: u8) -> StepAnswer
     if word::has_room(s.len(), at, n) {
         return StepAnswer::Next(at + n);
     }
-    StepAnswer::Refused(Refusal {
-        number: 9,
-        place: item,
-    })
+    StepAnswer::Refused(refusal::runs_past(item))
 }
 
 // A value that is no body, behind its head byte: only an index is read to be checked.
@@ -132,10 +129,7 @@ fn body_past(s: &[u8], w: Walk, named: bool, at: usize, left: u32) -> StepAnswer
     ensures { λ r. ⌜ step-outcome r ≡ pastBody (now (s .entry)) w named left at ⌝ }
 {
     if left <= 0 {
-        return StepAnswer::Refused(Refusal {
-            number: 13,
-            place: w.item,
-        });
+        return StepAnswer::Refused(refusal::nested_too_deep(w.item));
     }
     match index_past(s, w.item, named, w.types, at) {
         StepAnswer::Refused(r) => StepAnswer::Refused(r),

@@ -81,10 +81,7 @@ fn address_at(s: &[u8], j: HandlerJudge, at: usize) -> LebAnswer
             if value < j.units {
                 return LebAnswer::Got { value, next };
             }
-            LebAnswer::Refused(Refusal {
-                number: 17,
-                place: item,
-            })
+            LebAnswer::Refused(refusal::wrong_code(item))
         }
     }
 }
@@ -109,10 +106,7 @@ fn pair_found(s: &[u8], j: HandlerJudge, at: usize) -> PairFoundAnswer
                     },
                 };
             }
-            PairFoundAnswer::Refused(Refusal {
-                number: 11,
-                place: item,
-            })
+            PairFoundAnswer::Refused(refusal::wrong_index(item))
         }
     }
 }
@@ -304,10 +298,7 @@ pub fn handlers_at(s: &[u8], j: HandlerJudge, h: u32, k: u32) -> HandlersAnswer
                     },
                 };
             }
-            HandlersAnswer::Refused(Refusal {
-                number: 17,
-                place: item,
-            })
+            HandlersAnswer::Refused(refusal::wrong_code(item))
         }
     }
 }

@@ -14,6 +14,7 @@ use native.Mathlib.Nat.{mul-le-mul-left, mul-le-mul-right, le-trans}
 use mir.Syntax.{w32, w64}
 use mir.Val.{Fits}
 use Rattle.refusal.specs.Refusals.{wrong-magic}
+use Rattle.refusal.specs.declared.Refusal.{Refusal}
 use Rattle.refusal.specs.Outcome.{Outcome, refused, _>>=_}
 use Rattle.refusal.proofs.Laws.{said, tests, calls, passes, fails}
 use Rattle.word.specs.Words.{u32At}
@@ -110,9 +111,9 @@ module _ (f : List ℕ) {v : ℕ} (e : v ≡ versionAt f) where
   unfolding versionedAt
   version-known p h = rw (← e) (passes wrong-magic (lt-ltb 0 v p) h)
 
-  pub version-unknown : v ≤ 0 → refused wrong-magic ≡ versionedAt f
+  pub version-unknown : {r : Refusal} → v ≤ 0 → r ≡ wrong-magic → refused r ≡ versionedAt f
   unfolding versionedAt
-  version-unknown p = rw (← e) (fails _ (le-ltb 0 v p))
+  version-unknown p made = rw (← e) (fails _ made (le-ltb 0 v p))
 
 -- ---- a call's answer, by the arm that was taken
 pub on-order : {B : Type 0} {x c : OrderAnswer} {o : Outcome Endian} {y : Outcome B} (k : Endian → Outcome B) → order-outcome x ≡ o → x ≡ c → y ≡ (order-outcome c >>= k) → y ≡ (o >>= k)

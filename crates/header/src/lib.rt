@@ -167,10 +167,7 @@ fn order_at(f: &[u8]) -> OrderAnswer
     if is_four(f, 40, 0x12, 0x34, 0x56, 0x78) {
         return OrderAnswer::Got(Endian::Big);
     }
-    OrderAnswer::Refused(Refusal {
-        number: 4,
-        place: 0,
-    })
+    OrderAnswer::Refused(refusal::wrong_tag())
 }
 
 // May a table of a file of `length` bytes have so many records there.
@@ -204,10 +201,7 @@ fn table_at(f: &[u8], order: Endian, shape: Shape, at: u32) -> TableAnswer
     if is_table_allowed(f.len(), shape, count, offset) {
         return TableAnswer::Got(Table { count, offset });
     }
-    TableAnswer::Refused(Refusal {
-        number: 6,
-        place: 0,
-    })
+    TableAnswer::Refused(refusal::out_of_bounds())
 }
 
 // Three tables whose counts and offsets stand in a row.
@@ -237,16 +231,10 @@ fn section_at(f: &[u8], order: Endian) -> SectionAnswer
     let size = word::u32_at(f, 104, order) as usize;
     let start = word::u32_at(f, 108, order) as usize;
     if start < 112 {
-        return SectionAnswer::Refused(Refusal {
-            number: 6,
-            place: 0,
-        });
+        return SectionAnswer::Refused(refusal::out_of_bounds());
     }
     if f.len() < start + size {
-        return SectionAnswer::Refused(Refusal {
-            number: 6,
-            place: 0,
-        });
+        return SectionAnswer::Refused(refusal::out_of_bounds());
     }
     SectionAnswer::Got(Section {
         start,
@@ -287,16 +275,10 @@ fn body_at(f: &[u8], version: u32, order: Endian) -> HeaderAnswer
     let size = word::u32_at(f, 36, order);
     let file = word::u32_at(f, 32, order) as usize;
     if size != 112 {
-        return HeaderAnswer::Refused(Refusal {
-            number: 5,
-            place: 0,
-        });
+        return HeaderAnswer::Refused(refusal::wrong_sizes());
     }
     if file != f.len() {
-        return HeaderAnswer::Refused(Refusal {
-            number: 5,
-            place: 0,
-        });
+        return HeaderAnswer::Refused(refusal::wrong_sizes());
     }
     tables_at(f, version, order)
 }
@@ -329,24 +311,15 @@ pub fn header_of(f: &[u8]) -> HeaderAnswer
     ensures { λ r. ⌜ header-outcome r ≡ headerAt (now (f .entry)) ⌝ }
 {
     if f.len() < 112 {
-        return HeaderAnswer::Refused(Refusal {
-            number: 1,
-            place: 0,
-        });
+        return HeaderAnswer::Refused(refusal::file_too_short());
     }
     if 67108864 < f.len() {
-        return HeaderAnswer::Refused(Refusal {
-            number: 2,
-            place: 0,
-        });
+        return HeaderAnswer::Refused(refusal::file_too_long());
     }
     if is_four(f, 0, 0x64, 0x65, 0x78, 0x0a) {
         return versioned(f);
     }
-    HeaderAnswer::Refused(Refusal {
-        number: 3,
-        place: 0,
-    })
+    HeaderAnswer::Refused(refusal::wrong_magic())
 }
 
 // The header behind the magic: its version, and then its order.
@@ -360,10 +333,7 @@ fn versioned(f: &[u8]) -> HeaderAnswer
             OrderAnswer::Got(order) => body_at(f, version, order),
         };
     }
-    HeaderAnswer::Refused(Refusal {
-        number: 3,
-        place: 0,
-    })
+    HeaderAnswer::Refused(refusal::wrong_magic())
 }
 
 // The file up to the data section's end: what data items are read from.

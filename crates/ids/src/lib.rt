@@ -55,7 +55,7 @@ pub fn type_at(f: &[u8], frame: Frame, offset: u32, n: u32) -> IndexAnswer
     if string < frame.strings {
         return IndexAnswer::Got(string);
     }
-    IndexAnswer::Refused(Refusal { number: 11, place })
+    IndexAnswer::Refused(refusal::wrong_index(place))
 }
 
 // A proto's own rules: shorty, return type, parameters.
@@ -68,10 +68,10 @@ pub fn proto_at(f: &[u8], frame: Frame, end: usize, offset: u32, n: u32) -> Prot
     let return_type = word::u32_at(f, place + 4, order);
     let parameters = word::u32_at(f, place + 8, order);
     if frame.strings <= shorty {
-        return ProtoAnswer::Refused(Refusal { number: 11, place });
+        return ProtoAnswer::Refused(refusal::wrong_index(place));
     }
     if frame.types <= return_type {
-        return ProtoAnswer::Refused(Refusal { number: 11, place });
+        return ProtoAnswer::Refused(refusal::wrong_index(place));
     }
     if frame::is_allowed_or_absent(frame.start, end, true, parameters as usize) {
         return ProtoAnswer::Got(Proto {
@@ -80,7 +80,7 @@ pub fn proto_at(f: &[u8], frame: Frame, end: usize, offset: u32, n: u32) -> Prot
             parameters,
         });
     }
-    ProtoAnswer::Refused(Refusal { number: 8, place })
+    ProtoAnswer::Refused(refusal::wrong_offset(place))
 }
 
 // A field's or a method's own rules: `kinds` is how many types or protos there are.
@@ -93,13 +93,13 @@ pub fn member_at(f: &[u8], frame: Frame, kinds: u32, offset: u32, n: u32) -> Mem
     let kind = word::u16_at(f, place + 2, order) as u32;
     let name = word::u32_at(f, place + 4, order);
     if frame.types <= class {
-        return MemberIdAnswer::Refused(Refusal { number: 11, place });
+        return MemberIdAnswer::Refused(refusal::wrong_index(place));
     }
     if kinds <= kind {
-        return MemberIdAnswer::Refused(Refusal { number: 11, place });
+        return MemberIdAnswer::Refused(refusal::wrong_index(place));
     }
     if frame.strings <= name {
-        return MemberIdAnswer::Refused(Refusal { number: 11, place });
+        return MemberIdAnswer::Refused(refusal::wrong_index(place));
     }
     MemberIdAnswer::Got(MemberId { class, kind, name })
 }
@@ -113,16 +113,16 @@ pub fn handle_at(f: &[u8], frame: Frame, offset: u32, n: u32) -> HandleAnswer
     let kind = word::u16_at(f, place, order) as u32;
     let number = word::u16_at(f, place + 4, order) as u32;
     if 8 < kind {
-        return HandleAnswer::Refused(Refusal { number: 18, place });
+        return HandleAnswer::Refused(refusal::unknown_kind(place));
     }
     if kind <= 3 {
         if number < frame.fields {
             return HandleAnswer::Got(Handle { kind, number });
         }
-        return HandleAnswer::Refused(Refusal { number: 11, place });
+        return HandleAnswer::Refused(refusal::wrong_index(place));
     }
     if number < frame.methods {
         return HandleAnswer::Got(Handle { kind, number });
     }
-    HandleAnswer::Refused(Refusal { number: 11, place })
+    HandleAnswer::Refused(refusal::wrong_index(place))
 }

@@ -20,7 +20,7 @@ use Rattle.refusal.specs.Refusals.{malformed-number, runs-past}
 use Rattle.refusal.specs.declared.Refusal.{Refusal}
 use Rattle.refusal.specs.Outcome.{Outcome, answer, refused, _>>=_, given}
 use Rattle.refusal.specs.Rows.{Found, in-front}
-use Rattle.refusal.proofs.Laws.{said, calls, bind-answer, bind-refused, passes, fails}
+use Rattle.refusal.proofs.Laws.{said, calls, bind-answer, bind-refused, refused-by, passes, fails}
 use Rattle.refusal.proofs.Exact.{never, answer-exact, bind-exact, at-most, one-of}
 use Rattle.refusal.proofs.Rows.{after, after-none, after-front}
 use Rattle.leb128.specs.Leb.{bytesAt, weight, scale, fifth, signed, less-one, ulebAt, slebAt, plusOneAt, Weighing, weighing, weighedAt}
@@ -97,9 +97,9 @@ module _ {s : List ℕ} {item at p v m left : ℕ} (h : Head s item at p v m lef
   pub fits-scale : Fits w64 (m * 128)
   fits-scale = omega (arith, turn 0 (omega arith))
 
-  pub head-end : length s ≤ p → refused (runs-past item) ≡ weighedAt s item at
+  pub head-end : {r : Refusal} → length s ≤ p → r ≡ runs-past item → refused r ≡ weighedAt s item at
   unfolding weighedAt
-  head-end q = sym (bind-refused weighing (h .same ∙ bind-refused _ (bytes-end s item p left l q)))
+  head-end q made = refused-by made ∙ sym (bind-refused weighing (h .same ∙ bind-refused _ (bytes-end s item p left l q)))
 
   grown : weight (h .front ++ getD s p 0 ∷ []) ≡ v + m * (getD s p 0 % 128)
   grown = weight-more (h .front) (getD s p 0) ∙ (λ i. h .weight-is i + h .scale-is i * (getD s p 0 % 128))
@@ -122,11 +122,11 @@ module _ {s : List ℕ} {item at p v m left : ℕ} (h : Head s item at p v m lef
     room = room-again left m l (h .room);
   }
 
-pub head-full : {s : List ℕ} {item at p v m left : ℕ} → Head s item at p v m left → left ≤ 0 → refused (malformed-number item) ≡ weighedAt s item at
+pub head-full : {s : List ℕ} {item at p v m left : ℕ} {r : Refusal} → Head s item at p v m left → left ≤ 0 → r ≡ malformed-number item → refused r ≡ weighedAt s item at
 unfolding weighedAt bytesAt
-head-full {s} {item} {at} {p} {v} {m} {left} h q =
+head-full {s} {item} {at} {p} {v} {m} {left} h q made =
     let none : left ≡ 0 = omega arith in
-    sym (bind-refused weighing (h .same ∙ bind-refused _ (ap (λ (k : ℕ). bytesAt k s item p) none)))
+    refused-by made ∙ sym (bind-refused weighing (h .same ∙ bind-refused _ (ap (λ (k : ℕ). bytesAt k s item p) none)))
 
 -- ---- signed numbers
 -- -1 - k at 32 bits
@@ -202,23 +202,23 @@ module _ (s : List ℕ) (item at : ℕ) where
           let low = b .fifth-is .low (omega arith) in
           sym (bind-answer _ (b .read) ∙ sym (passes (malformed-number item) (le-leb (fifth (b .bs)) 0x0f low) (λ i. answer (record { item = sym w i; next = n }))))
 
-      pub uleb-high : 2 ^ 32 ≤ v → refused (malformed-number item) ≡ ulebAt s item at
+      pub uleb-high : {r : Refusal} → 2 ^ 32 ≤ v → r ≡ malformed-number item → refused r ≡ ulebAt s item at
       unfolding ulebAt
-      uleb-high h =
+      uleb-high h made =
           let b = behind e t in
           let w = b .weight-is in
           let high = b .fifth-is .high (omega arith) in
-          sym (bind-answer _ (b .read) ∙ sym (fails _ (lt-leb (fifth (b .bs)) 0x0f high)))
+          sym (bind-answer _ (b .read) ∙ sym (fails _ made (lt-leb (fifth (b .bs)) 0x0f high)))
 
       -- the signed number: a test on the fifth byte, and what is answered
       sleb-in : (fifth (behind e t .bs) ≤ 0x07) ⊎ (0x78 ≤ fifth (behind e t .bs)) → answer (record { item = signed (behind e t .bs); next = n }) ≡ slebAt s item at
       unfolding slebAt
       sleb-in h = sym (bind-answer _ (behind e t .read) ∙ sym (passes (malformed-number item) (one-of (at-most _ _) (at-most _ _) .complete h) refl))
 
-      sleb-out : (0x07 < fifth (behind e t .bs)) × (fifth (behind e t .bs) < 0x78) → refused (malformed-number item) ≡ slebAt s item at
+      sleb-out : {r : Refusal} → (0x07 < fifth (behind e t .bs)) × (fifth (behind e t .bs) < 0x78) → r ≡ malformed-number item → refused r ≡ slebAt s item at
       unfolding slebAt
-      sleb-out h =
-          sym (bind-answer _ (behind e t .read) ∙ sym (fails _ (λ i. lt-leb (fifth (behind e t .bs)) 0x07 (h .0) i || lt-leb 0x78 (fifth (behind e t .bs)) (h .1) i)))
+      sleb-out h made =
+          sym (bind-answer _ (behind e t .read) ∙ sym (fails _ made (λ i. lt-leb (fifth (behind e t .bs)) 0x07 (h .0) i || lt-leb 0x78 (fifth (behind e t .bs)) (h .1) i)))
 
       pub fits-twice : Fits w64 (2 * v)
       fits-twice = let b = behind e t in let w = b .weight-is in let f = b .scale-is in let z = weight-small (b .bs) in let k = b .fifth-is .most in omega arith
@@ -239,12 +239,12 @@ module _ (s : List ℕ) (item at : ℕ) where
           let f = b .scale-is in
           ap (λ (z : ℤ). answer (record { item = z; next = n })) (toZ-pos w32 v q ∙ ap pos (sym w) ∙ sym (signed-plus (b .bs) (omega arith))) ∙ sleb-in (inl (b .fifth-is .plus-low (omega arith) (omega arith)))
 
-      pub sleb-over : 2 * v < m → 2 ^ 31 ≤ v → refused (malformed-number item) ≡ slebAt s item at
-      sleb-over p q =
+      pub sleb-over : {r : Refusal} → 2 * v < m → 2 ^ 31 ≤ v → r ≡ malformed-number item → refused r ≡ slebAt s item at
+      sleb-over p q made =
           let b = behind e t in
           let w = b .weight-is in
           let f = b .scale-is in
-          sleb-out (b .fifth-is .plus-high (omega arith) (omega arith))
+          sleb-out (b .fifth-is .plus-high (omega arith) (omega arith)) made
 
       pub sleb-minus : m ≤ 2 * v → m - v ≤ 2 ^ 31 → answer (record { item = toZ w32 (ofZ w32 (negsuc 0 -ℤ toZ w32 (m - v - 1))); next = n }) ≡ slebAt s item at
       sleb-minus p q =
@@ -256,12 +256,12 @@ module _ (s : List ℕ) (item at : ℕ) where
           ap (λ (y : ℤ). answer (record { item = y; next = n })) (minus-back (m - v - 1) (omega arith) ∙ ap negsuc same ∙ sym (signed-minus (b .bs) (omega arith)))
           ∙ sleb-in (b .fifth-is .minus-low (omega arith) (omega arith))
 
-      pub sleb-under : m ≤ 2 * v → 2 ^ 31 < m - v → refused (malformed-number item) ≡ slebAt s item at
-      sleb-under p q =
+      pub sleb-under : {r : Refusal} → m ≤ 2 * v → 2 ^ 31 < m - v → r ≡ malformed-number item → refused r ≡ slebAt s item at
+      sleb-under p q made =
           let b = behind e t in
           let w = b .weight-is in
           let f = b .scale-is in
-          sleb-out (b .fifth-is .minus-high (omega arith) (omega arith))
+          sleb-out (b .fifth-is .minus-high (omega arith) (omega arith)) made
 
 -- ---- a number of one byte, before anything is weighed
 weight-one : (b : ℕ) → b < 128 → weight (b ∷ []) ≡ b

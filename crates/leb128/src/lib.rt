@@ -37,10 +37,7 @@ fn weigh(s: &[u8], at: usize, item: usize) -> WeighedAnswer
     let mut left: u32 = 5;
     while 0 < left {
         if s.len() <= p {
-            return WeighedAnswer::Refused(Refusal {
-                number: 9,
-                place: item,
-            });
+            return WeighedAnswer::Refused(refusal::runs_past(item));
         }
         let b = s[p] as u64;
         let low = b % 128;
@@ -56,10 +53,7 @@ fn weigh(s: &[u8], at: usize, item: usize) -> WeighedAnswer
         scale *= 128;
         left -= 1;
     }
-    WeighedAnswer::Refused(Refusal {
-        number: 10,
-        place: item,
-    })
+    WeighedAnswer::Refused(refusal::malformed_number(item))
 }
 
 // An unsigned number. Most have one byte, which is the number: that case comes first and calls nothing.
@@ -88,10 +82,7 @@ pub fn uleb(s: &[u8], at: usize, item: usize) -> LebAnswer
                     next,
                 };
             }
-            LebAnswer::Refused(Refusal {
-                number: 10,
-                place: item,
-            })
+            LebAnswer::Refused(refusal::malformed_number(item))
         }
     }
 }
@@ -126,10 +117,7 @@ pub fn sleb(s: &[u8], at: usize, item: usize) -> SignedLebAnswer
                         next,
                     };
                 }
-                return SignedLebAnswer::Refused(Refusal {
-                    number: 10,
-                    place: item,
-                });
+                return SignedLebAnswer::Refused(refusal::malformed_number(item));
             }
             let below = scale - value;
             if below <= 2147483648 {
@@ -139,10 +127,7 @@ pub fn sleb(s: &[u8], at: usize, item: usize) -> SignedLebAnswer
                     next,
                 };
             }
-            SignedLebAnswer::Refused(Refusal {
-                number: 10,
-                place: item,
-            })
+            SignedLebAnswer::Refused(refusal::malformed_number(item))
         }
     }
 }

@@ -10,6 +10,7 @@ use borrow.Author.Needs.{needs}
 use borrow.Author.Tests.{lt-ltb, le-ltb, le-leb, lt-leb, eq-eqb, ne-eqb}
 use native.Mathlib.Omega.{arith}
 use Rattle.refusal.specs.Refusals.{runs-past, wrong-map, wrong-offset}
+use Rattle.refusal.specs.declared.Refusal.{Refusal}
 use Rattle.refusal.specs.Outcome.{Outcome, answer, refused, _>>=_}
 use Rattle.refusal.specs.Rows.{Found, past, collect}
 use Rattle.refusal.proofs.Laws.{said, calls, passes, fails, bind-answer, bind-refused}
@@ -119,13 +120,13 @@ module _ {s : List ℕ} {j : MapJudge} {from count left place floor : ℕ} {seen
   abbrev here-at : Scan
   here-at = record { place = place; floor = floor; seen = seen; handles = handles }
 
-  stops : {B : Type 0} (k : Found (List MapEntry) Scan → Outcome B) → refused (wrong-map (j .at)) ≡ judged j here-at e → refused (wrong-map (j .at)) ≡ (collect count (stepAt s j) (begin from) >>= k)
+  stops : {B : Type 0} {r : Refusal} (k : Found (List MapEntry) Scan → Outcome B) → refused r ≡ judged j here-at e → refused r ≡ (collect count (stepAt s j) (begin from) >>= k)
   unfolding stepAt
   stops k q = sym (bind-refused k (sym (gather-stop (h .gather) l (sym (bind-refused past (ap (judged j here-at) (sym read) ∙ sym q))))))
 
-  pub scanning-unknown : 21 ≤ number → refused (wrong-map (j .at)) ≡ scanAt s j from count
+  pub scanning-unknown : {r : Refusal} → 21 ≤ number → r ≡ wrong-map (j .at) → refused r ≡ scanAt s j from count
   unfolding scanAt judged
-  scanning-unknown p = stops _ (fails _ (le-ltb (mapCodeNumber (e .kind)) 21 (let z = is in omega arith)))
+  scanning-unknown p made = stops _ (fails _ made (le-ltb (mapCodeNumber (e .kind)) 21 (let z = is in omega arith)))
 
   module _ (known : number < 21) {b : Bool} (asked : b ≡ nextAllowed j e floor (getD seen number 0)) where
     there : b ≡ nextAllowed j e floor (getD seen (mapCodeNumber (e .kind)) 0)
@@ -134,9 +135,9 @@ module _ {s : List ℕ} {j : MapJudge} {from count left place floor : ℕ} {seen
     in-table : ltb (mapCodeNumber (e .kind)) 21 ≡ true
     in-table = lt-ltb (mapCodeNumber (e .kind)) 21 (let z = is in omega arith)
 
-    pub scanning-fail : b ≡ false → refused (wrong-map (j .at)) ≡ scanAt s j from count
+    pub scanning-fail : {r : Refusal} → b ≡ false → r ≡ wrong-map (j .at) → refused r ≡ scanAt s j from count
     unfolding scanAt judged
-    scanning-fail q = stops _ (passes (wrong-map (j .at)) in-table (fails _ (sym there ∙ q)))
+    scanning-fail q made = stops _ (passes (wrong-map (j .at)) in-table (fails _ made (sym there ∙ q)))
 
     pub scanning-next : {hs : Table} → b ≡ true → hs ≡ handlesOf e handles
         → Scanning s j from count (left - 1) (place + 12) (e .offset + 1) (set seen number 1) hs
@@ -156,22 +157,22 @@ scanning-done h l =
 
 -- ---- the stages of the list
 module _ (s : List ℕ) (j : MapJudge) where
-  pub list-low : length s < j .at → refused (runs-past (j .at)) ≡ keptListAt s j
+  pub list-low : {r : Refusal} → length s < j .at → r ≡ runs-past (j .at) → refused r ≡ keptListAt s j
   unfolding keptListAt listAt
-  list-low h = sym (bind-refused kept (sym (fails _ (lt-leb (j .at + 4) (length s) (omega arith)))))
+  list-low h made = sym (bind-refused kept (sym (fails _ made (lt-leb (j .at + 4) (length s) (omega arith)))))
 
-  pub list-short : j .at ≤ length s → length s - j .at < 4 → refused (runs-past (j .at)) ≡ keptListAt s j
+  pub list-short : {r : Refusal} → j .at ≤ length s → length s - j .at < 4 → r ≡ runs-past (j .at) → refused r ≡ keptListAt s j
   unfolding keptListAt listAt
-  list-short p h = sym (bind-refused kept (sym (fails _ (lt-leb (j .at + 4) (length s) (omega arith)))))
+  list-short p h made = sym (bind-refused kept (sym (fails _ made (lt-leb (j .at + 4) (length s) (omega arith)))))
 
   module _ {count : ℕ} (read : count ≡ u32At (j .order) s (j .at)) (p : j .at ≤ length s) (q : 4 ≤ length s - j .at) where
     past-size : listAt s j ≡ listOf s j count
     unfolding listAt
     past-size = rw (← read) (sym (passes (runs-past (j .at)) (le-leb (j .at + 4) (length s) (omega arith)) refl))
 
-    pub list-long : length s - j .at - 4 < 12 * count → refused (runs-past (j .at)) ≡ keptListAt s j
+    pub list-long : {r : Refusal} → length s - j .at - 4 < 12 * count → r ≡ runs-past (j .at) → refused r ≡ keptListAt s j
     unfolding keptListAt listOf
-    list-long h = sym (bind-refused kept (past-size ∙ sym (fails _ (lt-leb (j .at + 4 + 12 * count) (length s) (omega arith)))))
+    list-long h made = sym (bind-refused kept (past-size ∙ sym (fails _ made (lt-leb (j .at + 4 + 12 * count) (length s) (omega arith)))))
 
     module _ (r : 12 * count ≤ length s - j .at - 4) where
       pub room-there : j .at + 4 + 12 * count ≤ length s
@@ -193,10 +194,10 @@ module _ (s : List ℕ) (j : MapJudge) where
           → y ≡ (handles-outcome c >>= λ (t : Table). answer (record { count = count; handles = t })) → y ≡ keptListAt s j
       list-by e m g = said handles-outcome _ e m g ∙ sym scanned
 
-pub map-outside : (f : List ℕ) (h : Header) {s : List ℕ} {b : Bool} → s ≡ up-to-end f h → b ≡ allowed (h .start) (length s) true (h .map) → b ≡ false
-    → refused (wrong-offset 0) ≡ keptAt f h
+pub map-outside : (f : List ℕ) (h : Header) {s : List ℕ} {b : Bool} {r : Refusal} → s ≡ up-to-end f h → b ≡ allowed (h .start) (length s) true (h .map) → b ≡ false
+    → r ≡ wrong-offset 0 → refused r ≡ keptAt f h
 unfolding keptAt mapAt
-map-outside f h e a t = sym (bind-refused kept (sym (fails _ (sym (ap (λ (x : List ℕ). allowed (h .start) (length x) true (h .map)) e) ∙ sym a ∙ t))))
+map-outside f h e a t made = sym (bind-refused kept (sym (fails _ made (sym (ap (λ (x : List ℕ). allowed (h .start) (length x) true (h .map)) e) ∙ sym a ∙ t))))
 
 pub map-inside : (f : List ℕ) (h : Header) {s : List ℕ} {b : Bool} {y : Outcome MapList} → s ≡ up-to-end f h → b ≡ allowed (h .start) (length s) true (h .map) → b ≡ true
     → y ≡ keptListAt s (judge-of f h) → y ≡ keptAt f h

@@ -190,20 +190,14 @@ fn scan(s: &[u8], j: MapJudge, from: usize, count: u32) -> HandlesAnswer
         let e = entry_at(s, order, place);
         let number = code_of(e.kind);
         if 21 <= number {
-            return HandlesAnswer::Refused(Refusal {
-                number: 16,
-                place: j.at,
-            });
+            return HandlesAnswer::Refused(refusal::wrong_map(j.at));
         }
         if is_next_allowed(j, e, floor, seen[number]) {
             seen[number] = 1;
             handles = handles_of(e, handles);
             floor = e.offset as u64 + 1;
         } else {
-            return HandlesAnswer::Refused(Refusal {
-                number: 16,
-                place: j.at,
-            });
+            return HandlesAnswer::Refused(refusal::wrong_map(j.at));
         }
         place += 12;
         left -= 1;
@@ -218,23 +212,14 @@ fn list_at(s: &[u8], j: MapJudge) -> MapAnswer
     let order = j.order;
     let at = j.at;
     if s.len() < at {
-        return MapAnswer::Refused(Refusal {
-            number: 9,
-            place: at,
-        });
+        return MapAnswer::Refused(refusal::runs_past(at));
     }
     if s.len() - at < 4 {
-        return MapAnswer::Refused(Refusal {
-            number: 9,
-            place: at,
-        });
+        return MapAnswer::Refused(refusal::runs_past(at));
     }
     let count = word::u32_at(s, at, order);
     if s.len() - at - 4 < 12 * count as usize {
-        return MapAnswer::Refused(Refusal {
-            number: 9,
-            place: at,
-        });
+        return MapAnswer::Refused(refusal::runs_past(at));
     }
     match scan(s, j, at + 4, count) {
         HandlesAnswer::Refused(r) => MapAnswer::Refused(r),
@@ -259,8 +244,5 @@ pub fn map_of(f: &[u8], header: Header) -> MapAnswer
             },
         );
     }
-    MapAnswer::Refused(Refusal {
-        number: 8,
-        place: 0,
-    })
+    MapAnswer::Refused(refusal::wrong_offset(0))
 }

@@ -160,8 +160,8 @@ module _ (name out : List ℕ) (o : Outcome Header) (at : ℕ) (long : at ≡ le
   output-long = length-append (heading name) (reportOf o) ∙ ap (λ (k : ℕ). k + length (reportOf o)) (sym long)
 
   -- no room for the name
-  pub no-room-answer : length out < at → refused no-room ≡ written (outputOf name o) (length out)
-  no-room-answer l = short-answer (outputOf name o) out (let z = output-long in omega arith)
+  pub no-room-answer : {r : Refusal} → length out < at → r ≡ no-room → refused r ≡ written (outputOf name o) (length out)
+  no-room-answer l made = short-answer (outputOf name o) out (let z = output-long in omega arith) made
 
   pub no-room-content : length out < at → out ≡ content (outputOf name o) out
   no-room-content l = short-content (outputOf name o) out (let z = output-long in omega arith)
@@ -179,8 +179,8 @@ module _ (name out : List ℕ) (o : Outcome Header) (at : ℕ) (long : at ≡ le
       short-output-answer =
           sym (ap report-outcome c)
           ∙ e
-          ∙ sym (short-answer (reportOf o) (take (length out - at) (drop at out)) short)
-          ∙ short-answer (outputOf name o) out (let z = output-long in let y = part-long in let w = short in omega arith)
+          ∙ sym (short-answer (reportOf o) (take (length out - at) (drop at out)) short refl)
+          ∙ short-answer (outputOf name o) out (let z = output-long in let y = part-long in let w = short in omega arith) refl
 
       pub short-output-content : (last : List ℕ) → last ≡ content (reportOf o) (take (length out - at) (drop at out)) → take at out ++ (last ++ drop (length out - at) (drop at out)) ≡ content (outputOf name o) out
       short-output-content last w =

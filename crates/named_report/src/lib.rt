@@ -1,5 +1,4 @@
 // What goes out for an input: the line of its name, where it has one, and its report, into a lent output. So it can be written in one piece.
-use refusal::Refusal;
 use report::ReportAnswer;
 use verdict::Verdict;
 ghost use mathlib.Core.Path.{_≡_};
@@ -63,10 +62,7 @@ pub fn output_into(name: &[u8], verdict: Verdict, out: &mut [u8]) -> ReportAnswe
 {
     let at = heading_size(name);
     if out.len() < at {
-        return ReportAnswer::Refused(Refusal {
-            number: 19,
-            place: 0,
-        });
+        return ReportAnswer::Refused(refusal::no_room());
     }
     match report::verdict_into(verdict, &mut out[at..]) {
         ReportAnswer::Got(k) => {

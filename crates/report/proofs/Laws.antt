@@ -257,9 +257,9 @@ pub ruleset accepted-laws = (middle-room, bottom-room, nine-rows, needs)
 
 -- ---- the writer's two ways
 module _ (text out : List ℕ) where
-  pub short-answer : length out < length text → refused no-room ≡ written text (length out)
+  pub short-answer : {r : Refusal} → length out < length text → r ≡ no-room → refused r ≡ written text (length out)
   unfolding written
-  short-answer h = fails _ (lt-leb (length text) (length out) h)
+  short-answer h made = fails _ made (lt-leb (length text) (length out) h)
 
   pub short-content : length out < length text → out ≡ content text out
   unfolding content

@@ -187,10 +187,7 @@ pub fn text_into(text: &[u8], out: &mut [u8]) -> ReportAnswer
     ensures wrote { λ r. ⌜ now (out .exit) ≡ content (now (text .entry)) (now (out .entry)) ⌝ }
 {
     if out.len() < text.len() {
-        return ReportAnswer::Refused(Refusal {
-            number: 19,
-            place: 0,
-        });
+        return ReportAnswer::Refused(refusal::no_room());
     }
     put(text, out, 0);
     ReportAnswer::Got(text.len())

@@ -6,7 +6,6 @@ use directory_readers::DirectoryAnswer;
 use directory_readers::Reached;
 use directory_readers::ReachedAnswer;
 use header::Header;
-use refusal::Refusal;
 ghost use mathlib.Core.Path.{_≡_};
 ghost use Rattle.annotation_lists.specs.Answers.{word-outcome};
 ghost use Rattle.set_readers.specs.Sets.{classSetIn, classSet, entrySetIn, entrySet, parameterSetIn, parameterSet};
@@ -145,10 +144,7 @@ fn set_number(f: &[u8], header: Header, at: u32, k: u32) -> WordAnswer
             k,
         );
     }
-    WordAnswer::Refused(Refusal {
-        number: 7,
-        place: 0,
-    })
+    WordAnswer::Refused(refusal::not_there())
 }
 
 // How many annotations the set has that was reached.

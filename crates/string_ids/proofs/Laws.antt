@@ -15,7 +15,7 @@ use Rattle.refusal.specs.declared.Refusal.{Refusal}
 use Rattle.refusal.specs.Outcome.{Outcome, answer, refused, _>>=_, given, accepted}
 use Rattle.refusal.specs.Rows.{Found, Turn, follows, turn, first-turn, in-turn}
 use Rattle.refusal.specs.Seek.{position, or-this}
-use Rattle.refusal.proofs.Laws.{said, tests, calls, passes, fails, bind-answer, bind-refused}
+use Rattle.refusal.proofs.Laws.{said, tests, calls, refused-by, passes, fails, bind-answer, bind-refused}
 use Rattle.refusal.proofs.Exact.{never}
 use Rattle.refusal.proofs.Kept.{part-answer, part-refused}
 use Rattle.refusal.proofs.Rows.{bind-assoc}
@@ -46,9 +46,9 @@ pub record-by : (f : List ℕ) (h : Header) (n : ℕ) {place v : ℕ} {y : Outco
 unfolding recordAt
 record-by f h n {place} {v} {y} p e q = subst (λ (x : ℕ). y ≡ recordOf h n x) (e ∙ ap (u32At (h .order) f) p) q
 
--- the refusal at a place that a function answered, p
-pub record-fails : (h : Header) (n v : ℕ) {place : ℕ} → place ≡ stringPlace h n → refused (wrong-offset (stringPlace h n)) ≡ recordOf h n v → refused (wrong-offset place) ≡ recordOf h n v
-record-fails h n v e q = ap (λ (x : ℕ). refused (wrong-offset x)) e ∙ q
+-- the refusal at a place that a function answered
+pub record-fails : (h : Header) (n v : ℕ) {r : Refusal} {place : ℕ} → r ≡ wrong-offset place → place ≡ stringPlace h n → refused (wrong-offset (stringPlace h n)) ≡ recordOf h n v → refused r ≡ recordOf h n v
+record-fails h n v made e q = refused-by made ∙ ap (λ (x : ℕ). refused (wrong-offset x)) e ∙ q
 
 pub on-item : {B : Type 0} {x c : ItemPlaceAnswer} {o : Outcome ℕ} {y : Outcome B} (k : ℕ → Outcome B) → item-outcome x ≡ o → x ≡ c → y ≡ (item-outcome c >>= k) → y ≡ (o >>= k)
 on-item = said item-outcome
@@ -171,11 +171,12 @@ module _ {f : List ℕ} {h : Header} {text s : List ℕ} {left k : ℕ} {last : 
         same-order (q .last) last (kept .last-is) (d .lies)
         ∙ ap (λ (y : List ℕ). follows lessBytes (last-bytes y last) (part y p m)) (sym (w .section-is)) ∙ sym asked
 
-    pub looking-fail : {place : ℕ} → b ≡ false → place ≡ stringPlace h k → refused (out-of-order place) ≡ lookedUp f h text
+    pub looking-fail : {r : Refusal} {place : ℕ} → b ≡ false → r ≡ out-of-order place → place ≡ stringPlace h k → refused r ≡ lookedUp f h text
     unfolding lookedUp stringsAt in-turn
-    looking-fail false-is at =
-        ap (λ (y : ℕ). refused (out-of-order y)) at
-        ∙ sym (bind-refused _ (bind-refused _ (sym (collecting-stop (w .collecting) l λ a q kept. fails _ (ordered q a kept ∙ false-is) ∙ sym (stepped f h d q (kept .number-is))))))
+    looking-fail false-is made at =
+        refused-by made
+        ∙ ap (λ (y : ℕ). refused (out-of-order y)) at
+        ∙ sym (bind-refused _ (bind-refused _ (sym (collecting-stop (w .collecting) l λ a q kept. fails _ refl (ordered q a kept ∙ false-is) ∙ sym (stepped f h d q (kept .number-is))))))
 
     pub looking-next : {g : F.FoundString} {y : List ℕ} → b ≡ true → y ≡ part s p m → found-number g ≡ or-this (found-number found) (isEqual (byKey y text)) k
         → Looking f h text s (left - 1) (k + 1) (After p m) g
@@ -240,8 +241,8 @@ module _ {f : List ℕ} {h : Header} {s : List ℕ} {left k : ℕ} {last : Last}
   checking-stop t = unchecked f h (looking-stop (w .looking) l e t)
 
   module _ {p m u : ℕ} (t : x ≡ T.Got p m u) {b : Bool} (asked : b ≡ follows lessBytes (last-bytes s last) (part s p m)) where
-    pub checking-fail : {place : ℕ} → b ≡ false → place ≡ stringPlace h k → refused (out-of-order place) ≡ stringsChecked f h
-    checking-fail false-is at = unchecked f h (looking-fail (w .looking) l e t asked false-is at)
+    pub checking-fail : {r : Refusal} {place : ℕ} → b ≡ false → r ≡ out-of-order place → place ≡ stringPlace h k → refused r ≡ stringsChecked f h
+    checking-fail false-is made at = unchecked f h (looking-fail (w .looking) l e t asked false-is made at)
 
     pub checking-next : b ≡ true → Checking f h s (left - 1) (k + 1) (After p m)
     checking-next true-is = record {

@@ -55,7 +55,7 @@ fn record_at(f: &[u8], header: Header, n: u32) -> ItemPlaceAnswer
     if frame::is_allowed(header.start, header.end, false, offset) {
         return ItemPlaceAnswer::At(offset);
     }
-    ItemPlaceAnswer::Refused(Refusal { number: 8, place })
+    ItemPlaceAnswer::Refused(refusal::wrong_offset(place))
 }
 
 // String n: its record, then its item.
@@ -121,10 +121,7 @@ pub fn check_strings(f: &[u8], header: Header) -> CheckAnswer
                 if rises(s, last, start, length) {
                     last = Last::After { start, length };
                 } else {
-                    return CheckAnswer::Refused(Refusal {
-                        number: 15,
-                        place: place_of(header, n),
-                    });
+                    return CheckAnswer::Refused(refusal::out_of_order(place_of(header, n)));
                 }
             }
         }
@@ -158,10 +155,7 @@ pub fn look_up(f: &[u8], header: Header, text: &[u8]) -> LookupAnswer
                     found = found_with(found, word::bytes_at(s, start, length), text, k);
                     last = Last::After { start, length };
                 } else {
-                    return LookupAnswer::Refused(Refusal {
-                        number: 15,
-                        place: place_of(header, k),
-                    });
+                    return LookupAnswer::Refused(refusal::out_of_order(place_of(header, k)));
                 }
             }
         }

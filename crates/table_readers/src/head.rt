@@ -6,7 +6,6 @@ use super::OpenedAnswer;
 use header::Header;
 use header::HeaderAnswer;
 use map_list::MapAnswer;
-use refusal::Refusal;
 ghost use mathlib.Core.Path.{_≡_};
 ghost use Rattle.header.specs.Header.{headerAt};
 ghost use Rattle.header.specs.Answers.{header-outcome};
@@ -61,10 +60,7 @@ fn map_entry_in(f: &[u8], header: Header, k: u32) -> MapEntryAnswer
             if k < count {
                 return MapEntryAnswer::Got(map_list::entry_number(f, header, k));
             }
-            MapEntryAnswer::Refused(Refusal {
-                number: 7,
-                place: 0,
-            })
+            MapEntryAnswer::Refused(refusal::not_there())
         }
     }
 }

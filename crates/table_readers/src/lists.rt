@@ -3,7 +3,6 @@ use class_ids::ClassAnswer;
 use header::Header;
 use header::HeaderAnswer;
 use ids::ProtoAnswer;
-use refusal::Refusal;
 use type_list::TypeAnswer;
 use type_list::TypeCountAnswer;
 use type_list::TypeListJudge;
@@ -28,10 +27,7 @@ fn list_type(f: &[u8], header: Header, at: u32, k: u32) -> TypeAnswer
             k,
         );
     }
-    TypeAnswer::Refused(Refusal {
-        number: 7,
-        place: 0,
-    })
+    TypeAnswer::Refused(refusal::not_there())
 }
 
 // How many parameters proto n has.

@@ -1,7 +1,6 @@
 // Strings by number, and the lookup.
 use header::Header;
 use header::HeaderAnswer;
-use refusal::Refusal;
 use string_ids::LookupAnswer;
 use text::TextAnswer;
 ghost use mathlib.Core.Path.{_≡_};
@@ -26,10 +25,7 @@ fn string_in(f: &[u8], header: Header, n: u32) -> TextAnswer
     if n < strings.count {
         return string_ids::string_at(f, header, n);
     }
-    TextAnswer::Refused(Refusal {
-        number: 7,
-        place: 0,
-    })
+    TextAnswer::Refused(refusal::not_there())
 }
 
 // The bytes of string n, none where it is refused.

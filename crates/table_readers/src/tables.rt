@@ -8,7 +8,6 @@ use ids::MemberIdAnswer;
 use ids::ProtoAnswer;
 use map_list::MapAnswer;
 use map_list::MapList;
-use refusal::Refusal;
 ghost use mathlib.Core.Path.{_≡_};
 ghost use Rattle.ids.specs.Answers.{index-outcome, proto-outcome, member-id-outcome, handle-outcome};
 ghost use Rattle.class_ids.specs.Answers.{class-outcome};
@@ -31,10 +30,7 @@ fn type_in(f: &[u8], header: Header, n: u32) -> IndexAnswer
     if n < t.count {
         return ids::type_at(f, header::plain_frame(header), t.offset, n);
     }
-    IndexAnswer::Refused(Refusal {
-        number: 7,
-        place: 0,
-    })
+    IndexAnswer::Refused(refusal::not_there())
 }
 
 // Proto n.
@@ -54,10 +50,7 @@ pub fn proto_in(f: &[u8], header: Header, n: u32) -> ProtoAnswer
     if n < t.count {
         return ids::proto_at(f, header::plain_frame(header), header.end, t.offset, n);
     }
-    ProtoAnswer::Refused(Refusal {
-        number: 7,
-        place: 0,
-    })
+    ProtoAnswer::Refused(refusal::not_there())
 }
 
 // Field n.
@@ -78,10 +71,7 @@ fn field_in(f: &[u8], header: Header, n: u32) -> MemberIdAnswer
     if n < t.count {
         return ids::member_at(f, header::plain_frame(header), types.count, t.offset, n);
     }
-    MemberIdAnswer::Refused(Refusal {
-        number: 7,
-        place: 0,
-    })
+    MemberIdAnswer::Refused(refusal::not_there())
 }
 
 // Method n.
@@ -102,10 +92,7 @@ fn method_in(f: &[u8], header: Header, n: u32) -> MemberIdAnswer
     if n < t.count {
         return ids::member_at(f, header::plain_frame(header), protos.count, t.offset, n);
     }
-    MemberIdAnswer::Refused(Refusal {
-        number: 7,
-        place: 0,
-    })
+    MemberIdAnswer::Refused(refusal::not_there())
 }
 
 // Class n.
@@ -125,10 +112,7 @@ pub fn class_in(f: &[u8], header: Header, n: u32) -> ClassAnswer
     if n < t.count {
         return class_ids::class_at(f, header::plain_frame(header), header.end, t.offset, n);
     }
-    ClassAnswer::Refused(Refusal {
-        number: 7,
-        place: 0,
-    })
+    ClassAnswer::Refused(refusal::not_there())
 }
 
 // Method handle n, in the table that the map names.
@@ -157,8 +141,5 @@ fn handle_under(f: &[u8], header: Header, m: MapList, n: u32) -> HandleAnswer
     if n < t.count {
         return ids::handle_at(f, header::frame_of(header, t.count), t.offset, n);
     }
-    HandleAnswer::Refused(Refusal {
-        number: 7,
-        place: 0,
-    })
+    HandleAnswer::Refused(refusal::not_there())
 }

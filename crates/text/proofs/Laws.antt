@@ -15,7 +15,7 @@ use Rattle.refusal.specs.Refusals.{malformed-text, runs-past}
 use Rattle.refusal.specs.declared.Refusal.{Refusal}
 use Rattle.refusal.specs.Outcome.{Outcome, answer, refused, _>>=_, given}
 use Rattle.refusal.specs.Rows.{Found, Next, more, ends}
-use Rattle.refusal.proofs.Laws.{said, tests, calls, bind-answer, bind-refused, passes, fails, picks, leaves}
+use Rattle.refusal.proofs.Laws.{said, tests, calls, bind-answer, bind-refused, refused-by, passes, fails, picks, leaves}
 use Rattle.refusal.proofs.Exact.{answer-exact, bind-exact}
 use Rattle.refusal.proofs.Rows.{bind-assoc}
 use Rattle.refusal.proofs.Loops.{Ending, ending-first, ending-next, ending-stop, ending-full, ending-done}
@@ -109,13 +109,13 @@ module _ {s : List ℕ} {item start p count : ℕ} (h : Head s item start p coun
       let d = ending-done (h .ending) (omega arith) (passes (runs-past item) (lt-ltb p (length s) i) (picks _ (lt-ltb (getD s p 0) 0x80 q) (leaves _ (le-ltb 0 (getD s p 0) r) refl))) in
       sym (bind-answer counted (sym (d .1 .1)) ∙ (λ i. answer (record { item = d .1 .0 i; next = p })))
 
-  pub head-end : length s ≤ p → refused (runs-past item) ≡ countAt s item start
+  pub head-end : {r : Refusal} → length s ≤ p → r ≡ runs-past item → refused r ≡ countAt s item start
   unfolding countAt formAt
-  head-end i = go (h .left) (h .ending)
+  head-end i made = refused-by made ∙ go (h .left) (h .ending)
     where
       go : (n : ℕ) → Ending (formAt s item) (runs-past item) (unitsAt s item start) (λ (l : List ℕ). length l ≡ count) n p → refused (runs-past item) ≡ countAt s item start
       go zero e = sym (bind-refused counted (sym (ending-full e (omega arith))))
-      go (suc n) e = sym (bind-refused counted (sym (ending-stop e (omega arith) (fails _ (le-ltb p (length s) i)))))
+      go (suc n) e = sym (bind-refused counted (sym (ending-stop e (omega arith) (fails _ refl (le-ltb p (length s) i)))))
 
 -- ---- forms of one byte, eight at most in one turn
 module _ {s : List ℕ} {p : ℕ} where

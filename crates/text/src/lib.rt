@@ -37,18 +37,12 @@ fn two_at(s: &[u8], item: usize, p: usize) -> WideAnswer
     ensures { λ r. ⌜ wide-outcome r ≡ twoAt (now (s .entry)) item p ⌝ }
 {
     if s.len() - p < 2 {
-        return WideAnswer::Refused(Refusal {
-            number: 9,
-            place: item,
-        });
+        return WideAnswer::Refused(refusal::runs_past(item));
     }
     let a = s[p] as u32;
     let b = s[p + 1] as u32;
     if b / 64 != 2 {
-        return WideAnswer::Refused(Refusal {
-            number: 14,
-            place: item,
-        });
+        return WideAnswer::Refused(refusal::malformed_text(item));
     }
     let unit = a % 32 * 64 + b % 64;
     if 0x80 <= unit {
@@ -58,10 +52,7 @@ fn two_at(s: &[u8], item: usize, p: usize) -> WideAnswer
     if unit == 0 {
         return WideAnswer::Got { unit, next: p + 2 };
     }
-    WideAnswer::Refused(Refusal {
-        number: 14,
-        place: item,
-    })
+    WideAnswer::Refused(refusal::malformed_text(item))
 }
 
 // A form of three bytes: 9 where one is not there, 14 where one does not follow or two bytes are enough.
@@ -70,32 +61,20 @@ fn three_at(s: &[u8], item: usize, p: usize) -> WideAnswer
     ensures { λ r. ⌜ wide-outcome r ≡ threeAt (now (s .entry)) item p ⌝ }
 {
     if s.len() - p < 3 {
-        return WideAnswer::Refused(Refusal {
-            number: 9,
-            place: item,
-        });
+        return WideAnswer::Refused(refusal::runs_past(item));
     }
     let a = s[p] as u32;
     let b = s[p + 1] as u32;
     if b / 64 != 2 {
-        return WideAnswer::Refused(Refusal {
-            number: 14,
-            place: item,
-        });
+        return WideAnswer::Refused(refusal::malformed_text(item));
     }
     let c = s[p + 2] as u32;
     if c / 64 != 2 {
-        return WideAnswer::Refused(Refusal {
-            number: 14,
-            place: item,
-        });
+        return WideAnswer::Refused(refusal::malformed_text(item));
     }
     let unit = a % 16 * 4096 + b % 64 * 64 + c % 64;
     if unit < 0x800 {
-        return WideAnswer::Refused(Refusal {
-            number: 14,
-            place: item,
-        });
+        return WideAnswer::Refused(refusal::malformed_text(item));
     }
     WideAnswer::Got { unit, next: p + 3 }
 }
@@ -111,10 +90,7 @@ fn wide_at(s: &[u8], item: usize, p: usize) -> WideAnswer
     if s[p] / 16 == 14 {
         return three_at(s, item, p);
     }
-    WideAnswer::Refused(Refusal {
-        number: 14,
-        place: item,
-    })
+    WideAnswer::Refused(refusal::malformed_text(item))
 }
 
 // How many of the eight bytes from a place on are forms of one byte, up to the first that is none; 0 where the slice has no eight bytes more. The loop has a fixed
@@ -171,10 +147,7 @@ fn count_at(s: &[u8], item: usize, start: usize) -> UnitCountAnswer
             }
         }
     }
-    UnitCountAnswer::Refused(Refusal {
-        number: 9,
-        place: item,
-    })
+    UnitCountAnswer::Refused(refusal::runs_past(item))
 }
 
 // A string data item: its length, its units, and the length compared at the zero byte.
@@ -188,10 +161,7 @@ pub fn string_at(s: &[u8], item: usize) -> TextAnswer
             UnitCountAnswer::Got { units, zero } => {
                 let length = zero - next;
                 if units != value as usize {
-                    return TextAnswer::Refused(Refusal {
-                        number: 14,
-                        place: item,
-                    });
+                    return TextAnswer::Refused(refusal::malformed_text(item));
                 }
                 TextAnswer::Got {
                     start: next,

@@ -13,6 +13,7 @@ use native.Mathlib.Omega.{arith}
 use mir.Syntax.{w32}
 use mir.Val.{Fits}
 use Rattle.refusal.specs.Refusals.{runs-past, wrong-index}
+use Rattle.refusal.specs.declared.Refusal.{Refusal}
 use Rattle.refusal.specs.Outcome.{Outcome, answer, refused, _>>=_, present, accepted}
 use Rattle.refusal.specs.Rows.{every}
 use Rattle.refusal.proofs.Laws.{said, tests, calls, passes, fails, picks, leaves, bind-answer, bind-refused}
@@ -56,9 +57,9 @@ module _ {s : List ℕ} {j : TypeListJudge} {count left k : ℕ} (h : Going s j 
     fits = h .fits;
   }
 
-  pub going-stop : {t : ℕ} → 0 < left → t ≡ entryNumber s j k → j .types ≤ t → refused (wrong-index (j .at)) ≡ allAt s j count
+  pub going-stop : {t : ℕ} {r : Refusal} → 0 < left → t ≡ entryNumber s j k → j .types ≤ t → r ≡ wrong-index (j .at) → refused r ≡ allAt s j count
   unfolding allAt entryAt
-  going-stop l e p = numbers-stop (h .numbers) accepted l (fails _ (le-ltb (entryNumber s j k) (j .types) (let z = e in omega arith)))
+  going-stop l e p made = numbers-stop (h .numbers) accepted l (fails _ made (le-ltb (entryNumber s j k) (j .types) (let z = e in omega arith)))
 
   pub going-done : left ≤ 0 → answer tt ≡ allAt s j count
   unfolding allAt
@@ -66,22 +67,22 @@ module _ {s : List ℕ} {j : TypeListJudge} {count left k : ℕ} (h : Going s j 
 
 -- ---- the stages of the list
 module _ (s : List ℕ) (j : TypeListJudge) where
-  pub list-low : length s < j .at → refused (runs-past (j .at)) ≡ countAt s j
+  pub list-low : {r : Refusal} → length s < j .at → r ≡ runs-past (j .at) → refused r ≡ countAt s j
   unfolding countAt listAt
-  list-low h = sym (bind-refused counted (sym (fails _ (lt-leb (j .at + 4) (length s) (omega arith)))))
+  list-low h made = sym (bind-refused counted (sym (fails _ made (lt-leb (j .at + 4) (length s) (omega arith)))))
 
-  pub list-short : j .at ≤ length s → length s - j .at < 4 → refused (runs-past (j .at)) ≡ countAt s j
+  pub list-short : {r : Refusal} → j .at ≤ length s → length s - j .at < 4 → r ≡ runs-past (j .at) → refused r ≡ countAt s j
   unfolding countAt listAt
-  list-short p h = sym (bind-refused counted (sym (fails _ (lt-leb (j .at + 4) (length s) (omega arith)))))
+  list-short p h made = sym (bind-refused counted (sym (fails _ made (lt-leb (j .at + 4) (length s) (omega arith)))))
 
   module _ {count : ℕ} (read : count ≡ u32At (j .order) s (j .at)) (p : j .at ≤ length s) (q : 4 ≤ length s - j .at) where
     past-size : listAt s j ≡ listOf s j count
     unfolding listAt
     past-size = rw (← read) (sym (passes (runs-past (j .at)) (le-leb (j .at + 4) (length s) (omega arith)) refl))
 
-    pub list-long : length s - j .at - 4 < 2 * count → refused (runs-past (j .at)) ≡ countAt s j
+    pub list-long : {r : Refusal} → length s - j .at - 4 < 2 * count → r ≡ runs-past (j .at) → refused r ≡ countAt s j
     unfolding countAt listOf
-    list-long h = sym (bind-refused counted (past-size ∙ sym (fails _ (lt-leb (j .at + 4 + 2 * count) (length s) (omega arith)))))
+    list-long h made = sym (bind-refused counted (past-size ∙ sym (fails _ made (lt-leb (j .at + 4 + 2 * count) (length s) (omega arith)))))
 
     module _ (r : 2 * count ≤ length s - j .at - 4) where
       entries : countAt s j ≡ (allAt s j count >>= λ (u : Unit). answer count)

@@ -49,10 +49,7 @@ fn all(s: &[u8], j: TypeListJudge, count: u32) -> CheckAnswer
     while 0 < left {
         let t = entry_number(s, j, k);
         if j.types <= t {
-            return CheckAnswer::Refused(Refusal {
-                number: 11,
-                place: j.at,
-            });
+            return CheckAnswer::Refused(refusal::wrong_index(j.at));
         }
         k += 1;
         left -= 1;
@@ -67,23 +64,14 @@ fn count_at(s: &[u8], j: TypeListJudge) -> TypeCountAnswer
     let order = j.order;
     let at = j.at;
     if s.len() < at {
-        return TypeCountAnswer::Refused(Refusal {
-            number: 9,
-            place: at,
-        });
+        return TypeCountAnswer::Refused(refusal::runs_past(at));
     }
     if s.len() - at < 4 {
-        return TypeCountAnswer::Refused(Refusal {
-            number: 9,
-            place: at,
-        });
+        return TypeCountAnswer::Refused(refusal::runs_past(at));
     }
     let count = word::u32_at(s, at, order);
     if s.len() - at - 4 < 2 * count as usize {
-        return TypeCountAnswer::Refused(Refusal {
-            number: 9,
-            place: at,
-        });
+        return TypeCountAnswer::Refused(refusal::runs_past(at));
     }
     match all(s, j, count) {
         CheckAnswer::Refused(r) => TypeCountAnswer::Refused(r),
@@ -101,10 +89,7 @@ pub fn type_at(s: &[u8], j: TypeListJudge, k: u32) -> TypeAnswer
             if k < count {
                 return TypeAnswer::Got(entry_number(s, j, k));
             }
-            TypeAnswer::Refused(Refusal {
-                number: 7,
-                place: 0,
-            })
+            TypeAnswer::Refused(refusal::not_there())
         }
     }
 }

@@ -10,7 +10,7 @@ use Rattle.refusal.specs.Refusals.{not-there}
 use Rattle.refusal.specs.declared.Refusal.{Refusal}
 use Rattle.refusal.specs.Outcome.{Outcome, answer, refused, _>>=_}
 use Rattle.refusal.specs.Rows.{Found, repeat}
-use Rattle.refusal.proofs.Laws.{calls, bind-answer, bind-refused, Walk as Loop, walk-start, walk-next, walk-stop, walk-done}
+use Rattle.refusal.proofs.Laws.{calls, bind-answer, bind-refused, refused-by, Walk as Loop, walk-start, walk-next, walk-stop, walk-done}
 use Rattle.refusal.proofs.Exact.{answers-equal, never}
 use Rattle.refusal.proofs.Rows.{past-answer, past-refused}
 use Rattle.leb128.specs.Leb.{ulebAt}
@@ -91,9 +91,9 @@ module _ (s : List ℕ) (w : Walk) (p : ℕ) where
           unfolding arrayCount
           count-got = sym (bind-answer _ whole ∙ ap answer count-is)
 
-          pub value-none : (k : ℕ) → n ≤ k → refused not-there ≡ arrayValue s w p k
+          pub value-none : (k : ℕ) {r : Refusal} → n ≤ k → r ≡ not-there → refused r ≡ arrayValue s w p k
           unfolding arrayValue
-          value-none k h = let z = count-is in sym (bind-answer _ whole ∙ bind-refused _ (pick-none (all .0 .item) k (omega arith)))
+          value-none k h made = let z = count-is in refused-by made ∙ sym (bind-answer _ whole ∙ bind-refused _ (pick-none (all .0 .item) k (omega arith)))
 
           pub value-kth : (k : ℕ) {z : Outcome Shown} → k < n → z ≡ kthValue s w m k → z ≡ arrayValue s w p k
           unfolding arrayValue kthValue valueThere decodedAt
@@ -178,11 +178,11 @@ module _ (s : List ℕ) (w : Walk) (p : ℕ) where
           begins : annotation-rule there-all .size ≡ record { item = n; next = m }
           begins = answers-equal (sym (start-there there-all) ∙ got f u)
 
-          pub element-none : (k : ℕ) → n ≤ k → refused not-there ≡ annotationElement s w p k
+          pub element-none : (k : ℕ) {r : Refusal} → n ≤ k → r ≡ not-there → refused r ≡ annotationElement s w p k
           unfolding annotationElement
-          element-none k h =
+          element-none k h made =
               let z = row-length (annotation-rule there-all .row) ∙ ap (λ (c : Found ℕ ℕ). c .item) begins in
-              sym (bind-answer _ there-all ∙ bind-refused _ (pick-none (noted .0 .item .elements) k (omega arith)))
+              refused-by made ∙ sym (bind-answer _ there-all ∙ bind-refused _ (pick-none (noted .0 .item .elements) k (omega arith)))
 
           pub element-kth : (k : ℕ) {z : Outcome ShownElement} → k < n → z ≡ kthElement s w m k → z ≡ annotationElement s w p k
           unfolding annotationElement kthElement

@@ -91,10 +91,7 @@ pub fn array_value(s: &[u8], w: Walk, at: usize, k: u32) -> PickedAnswer
                 if k < count {
                     return kth_value(s, w, next, k);
                 }
-                PickedAnswer::Refused(Refusal {
-                    number: 7,
-                    place: 0,
-                })
+                PickedAnswer::Refused(refusal::not_there())
             }
         },
     }
@@ -192,10 +189,7 @@ pub fn annotation_element(s: &[u8], w: Walk, at: usize, k: u32) -> ElementAnswer
                 if k < count {
                     return kth_element(s, w, next, k);
                 }
-                ElementAnswer::Refused(Refusal {
-                    number: 7,
-                    place: 0,
-                })
+                ElementAnswer::Refused(refusal::not_there())
             }
         },
     }

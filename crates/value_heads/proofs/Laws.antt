@@ -15,7 +15,7 @@ use Rattle.refusal.specs.Refusals.{runs-past}
 use Rattle.refusal.specs.declared.Refusal.{Refusal}
 use Rattle.refusal.specs.Outcome.{Outcome, answer, refused, _>>=_, given}
 use Rattle.refusal.specs.Rows.{Found}
-use Rattle.refusal.proofs.Laws.{said, tests, calls}
+use Rattle.refusal.proofs.Laws.{said, tests, calls, refused-by}
 use Rattle.word.specs.Bytes.{stretch}
 use Rattle.leb128.proofs.Laws.{on-leb}
 use Rattle.value_heads.specs.declared.Walk.{Walk}
@@ -65,9 +65,9 @@ module _ (s : List ℕ) (item at h : ℕ) {n : ℕ} (size : n ≡ bytes-of h) {t
   unfolding numberAt given
   number-got m e = rw (← size, ← room, m) (λ i. answer (record { item = e i; next = at + n }))
 
-  pub number-short : t ≡ false → refused (runs-past item) ≡ numberAt s item at (bytes-of h)
+  pub number-short : {r : Refusal} → t ≡ false → r ≡ runs-past item → refused r ≡ numberAt s item at (bytes-of h)
   unfolding numberAt given
-  number-short m = rw (← size, ← room, m)
+  number-short m made = rw (← size, ← room, m) (refused-by made)
 
 pub size-few : {h n : ℕ} → n ≡ bytes-of h → Fits w8 h → n ≤ 8
 size-few {h} e f = let z = size-small h (omega arith) in omega arith

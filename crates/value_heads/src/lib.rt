@@ -137,19 +137,13 @@ pub fn head_at(s: &[u8], item: usize, at: usize) -> HeadByteAnswer
     ensures { λ r. ⌜ head-byte-outcome r ≡ headByteAt (now (s .entry)) item at ⌝ }
 {
     if s.len() <= at {
-        return HeadByteAnswer::Refused(Refusal {
-            number: 9,
-            place: item,
-        });
+        return HeadByteAnswer::Refused(refusal::runs_past(item));
     }
     let head = s[at];
     if is_allowed_head(head) {
         return HeadByteAnswer::Got(head);
     }
-    HeadByteAnswer::Refused(Refusal {
-        number: 12,
-        place: item,
-    })
+    HeadByteAnswer::Refused(refusal::wrong_value(item))
 }
 
 // The number of the n bytes from a place on, low first.
@@ -177,10 +171,7 @@ fn number_at(s: &[u8], item: usize, at: usize, head: u8) -> NumberAnswer
             next: at + n,
         };
     }
-    NumberAnswer::Refused(Refusal {
-        number: 9,
-        place: item,
-    })
+    NumberAnswer::Refused(refusal::runs_past(item))
 }
 
 // Is a number allowed for a code: an index is below its count.
@@ -203,10 +194,7 @@ pub fn checked_number(s: &[u8], w: Walk, at: usize, head: u8) -> NumberAnswer
             if is_in_range(w, head % 32, value) {
                 return NumberAnswer::Got { value, next };
             }
-            NumberAnswer::Refused(Refusal {
-                number: 11,
-                place: w.item,
-            })
+            NumberAnswer::Refused(refusal::wrong_index(w.item))
         }
     }
 }
@@ -221,10 +209,7 @@ pub fn index_at(s: &[u8], item: usize, count: u32, at: usize) -> LebAnswer
             if value < count {
                 return LebAnswer::Got { value, next };
             }
-            LebAnswer::Refused(Refusal {
-                number: 11,
-                place: item,
-            })
+            LebAnswer::Refused(refusal::wrong_index(item))
         }
     }
 }

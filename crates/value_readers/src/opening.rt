@@ -1,6 +1,5 @@
 // What the readers begin with: the file opened for a place, and what an item that holds values is read against.
 use header::Header;
-use refusal::Refusal;
 use table_readers::OpenedAnswer;
 use value_heads::Walk;
 ghost use mathlib.Core.Path.{_≡_};
@@ -18,10 +17,7 @@ pub fn open_within(f: &[u8], place: usize) -> OpenedAnswer
             if frame::is_allowed(header.start, header.end, false, place) {
                 return OpenedAnswer::Got(o);
             }
-            OpenedAnswer::Refused(Refusal {
-                number: 7,
-                place: 0,
-            })
+            OpenedAnswer::Refused(refusal::not_there())
         }
     }
 }

@@ -1,7 +1,6 @@
 // The static values of a class.
 use class_ids::ClassAnswer;
 use header::Header;
-use refusal::Refusal;
 use table_readers::OpenedAnswer;
 use value_bodies::BodySizeAnswer;
 use value_bodies::PickedAnswer;
@@ -59,10 +58,7 @@ fn value_in(f: &[u8], header: Header, handles: u32, at: u32, k: u32) -> PickedAn
             k,
         );
     }
-    PickedAnswer::Refused(Refusal {
-        number: 7,
-        place: 0,
-    })
+    PickedAnswer::Refused(refusal::not_there())
 }
 
 fn value_under(f: &[u8], header: Header, handles: u32, c: u32, k: u32) -> PickedAnswer

@@ -5,9 +5,13 @@ use Rattle.access_flags.proofs.flags_into.Reads as reads
 use Rattle.access_flags.proofs.flags_into.Lts as lts
 use Rattle.access_flags.proofs.count_of.Reads as count-of-reads
 use Rattle.access_flags.proofs.fill.Reads as fill-reads
+use Rattle.refusal.proofs.no_room.Reads as no-room-reads
 
 count-of-requires : tie.Need-count-of-requires
 count-of-requires c κs = search laws
+
+no-room-requires : tie.Need-no-room-requires
+no-room-requires c κs = search laws
 
 returns : tie.Need-returns
 returns c = search laws
@@ -23,4 +27,5 @@ returns-2 c = search laws
 
 pub flags-into-spec : {M : Type 1} → statement M
 flags-into-spec =
-    tie.close (tie.spec count-of-requires returns fill-requires same-length returns-2)
+    tie.close
+    (tie.spec count-of-requires no-room-requires returns fill-requires same-length returns-2)

@@ -8,6 +8,7 @@ use Rattle.annotation_directories.proofs.count_of.Reads as count-of-rea
 use Rattle.annotation_directories.proofs.directory.Reads as directory-reads
 use Rattle.annotation_directories.proofs.entry_at.Reads as entry-at-reads
 use Rattle.annotation_directories.proofs.limit_of.Reads as limit-of-reads
+use Rattle.refusal.proofs.not_there.Reads as not-there-reads
 
 directory-requires : tie.Need-directory-requires
 directory-requires c κs = search laws
@@ -45,6 +46,9 @@ entry-at-requires c κs = search laws
 returns : tie.Need-returns
 returns c = search laws
 
+not-there-requires : tie.Need-not-there-requires
+not-there-requires c κs = search laws
+
 returns-2 : tie.Need-returns-2
 returns-2 c = search laws
 
@@ -67,5 +71,6 @@ directory-entry-spec =
     add-entry-at-3
     entry-at-requires
     returns
+    not-there-requires
     returns-2
     returns-3)

@@ -5,6 +5,8 @@ use Rattle.annotation_directories.proofs.entry_at.Tie as tie
 use Rattle.annotation_directories.proofs.entry_at.Reads as reads
 use Rattle.annotation_directories.proofs.entry_at.Lts as lts
 use Rattle.frame.proofs.is_allowed.Reads as is-allowed-reads
+use Rattle.refusal.proofs.wrong_index.Reads as wrong-index-reads
+use Rattle.refusal.proofs.wrong_offset.Reads as wrong-offset-reads
 use Rattle.word.proofs.u32_at.Reads as u32-at-reads
 
 u32-at-requires : tie.Need-u32-at-requires
@@ -26,9 +28,15 @@ returns : tie.Need-returns
 unfolding entryOf
 returns c = search laws
 
+wrong-offset-requires : tie.Need-wrong-offset-requires
+wrong-offset-requires c κs = search laws
+
 returns-2 : tie.Need-returns-2
 unfolding entryOf
 returns-2 c = search laws
+
+wrong-index-requires : tie.Need-wrong-index-requires
+wrong-index-requires c κs = search laws
 
 returns-3 : tie.Need-returns-3
 unfolding entryOf
@@ -44,5 +52,7 @@ entry-at-spec =
     cast-is-allowed
     is-allowed-requires
     returns
+    wrong-offset-requires
     returns-2
+    wrong-index-requires
     returns-3)

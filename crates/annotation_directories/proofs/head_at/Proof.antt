@@ -7,6 +7,7 @@ use Rattle.annotation_directories.proofs.head_at.Lts as lts
 use Rattle.annotation_directories.proofs.counts_at.Reads as counts-at-reads
 use Rattle.annotation_lists.proofs.word_at.Reads as word-at-reads
 use Rattle.frame.proofs.is_allowed_or_absent.Reads as is-allowed-or-absent-reads
+use Rattle.refusal.proofs.wrong_offset.Reads as wrong-offset-reads
 
 word-at-requires : tie.Need-word-at-requires
 word-at-requires c κs = search laws depth 7
@@ -30,6 +31,9 @@ returns : tie.Need-returns
 unfolding headAt
 returns c = search laws depth 7
 
+wrong-offset-requires : tie.Need-wrong-offset-requires
+wrong-offset-requires c κs = search laws depth 7
+
 returns-2 : tie.Need-returns-2
 unfolding headAt
 returns-2 c = search laws depth 7
@@ -49,5 +53,6 @@ head-at-spec =
     is-allowed-or-absent-requires
     counts-at-requires
     returns
+    wrong-offset-requires
     returns-2
     returns-3)

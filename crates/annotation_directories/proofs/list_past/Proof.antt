@@ -4,6 +4,7 @@ use Rattle.annotation_directories.proofs.list_past.Tie as tie
 use Rattle.annotation_directories.proofs.list_past.Reads as reads
 use Rattle.annotation_directories.proofs.list_past.Lts as lts
 use Rattle.annotation_directories.proofs.entries_pass.Reads as entries-pass-reads
+use Rattle.refusal.proofs.runs_past.Reads as runs-past-reads
 use Rattle.word.proofs.has_room.Reads as has-room-reads
 
 mul-size : tie.Need-mul-size
@@ -30,6 +31,9 @@ add-t12 c = search laws
 returns-2 : tie.Need-returns-2
 returns-2 c = search laws
 
+runs-past-requires : tie.Need-runs-past-requires
+runs-past-requires c κs = search laws
+
 returns-3 : tie.Need-returns-3
 returns-3 c = search laws
 
@@ -45,4 +49,5 @@ list-past-spec =
     enum-told
     add-t12
     returns-2
+    runs-past-requires
     returns-3)

@@ -5,6 +5,7 @@ use Rattle.annotation_lists.proofs.offset_count.Reads as reads
 use Rattle.annotation_lists.proofs.offset_count.Lts as lts
 use Rattle.annotation_lists.proofs.offsets_pass.Reads as offsets-pass-reads
 use Rattle.annotation_lists.proofs.word_at.Reads as word-at-reads
+use Rattle.refusal.proofs.runs_past.Reads as runs-past-reads
 use Rattle.word.proofs.has_room.Reads as has-room-reads
 
 word-at-requires : tie.Need-word-at-requires
@@ -46,6 +47,9 @@ enum-told c = search laws
 returns-2 : tie.Need-returns-2
 returns-2 c = search laws
 
+runs-past-requires : tie.Need-runs-past-requires
+runs-past-requires c κs = search laws
+
 returns-3 : tie.Need-returns-3
 returns-3 c = search laws
 
@@ -69,5 +73,6 @@ offset-count-spec =
     returns
     enum-told
     returns-2
+    runs-past-requires
     returns-3
     returns-4)

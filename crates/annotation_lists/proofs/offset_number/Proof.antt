@@ -5,6 +5,7 @@ use Rattle.annotation_lists.proofs.offset_number.Reads as reads
 use Rattle.annotation_lists.proofs.offset_number.Lts as lts
 use Rattle.annotation_lists.proofs.offset_at.Reads as offset-at-reads
 use Rattle.annotation_lists.proofs.offset_count.Reads as offset-count-reads
+use Rattle.refusal.proofs.not_there.Reads as not-there-reads
 
 offset-count-requires : tie.Need-offset-count-requires
 offset-count-requires c κs = search laws
@@ -30,6 +31,9 @@ offset-at-requires c κs = search laws
 returns : tie.Need-returns
 returns c = search laws
 
+not-there-requires : tie.Need-not-there-requires
+not-there-requires c κs = search laws
+
 returns-2 : tie.Need-returns-2
 returns-2 c = search laws
 
@@ -48,5 +52,6 @@ offset-number-spec =
     add-offset-at-2
     offset-at-requires
     returns
+    not-there-requires
     returns-2
     returns-3)

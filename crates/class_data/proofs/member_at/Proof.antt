@@ -6,6 +6,7 @@ use Rattle.class_data.proofs.member_at.Lts as lts
 use Rattle.class_data.proofs.count_in.Reads as count-in-reads
 use Rattle.class_data.proofs.kept_at.Reads as kept-at-reads
 use Rattle.class_data.proofs.member_in.Reads as member-in-reads
+use Rattle.refusal.proofs.not_there.Reads as not-there-reads
 
 kept-at-requires : tie.Need-kept-at-requires
 kept-at-requires c κs = search laws depth 7
@@ -25,6 +26,9 @@ member-in-requires c κs = search laws depth 7
 returns : tie.Need-returns
 returns c = search laws depth 7
 
+not-there-requires : tie.Need-not-there-requires
+not-there-requires c κs = search laws depth 7
+
 returns-2 : tie.Need-returns-2
 returns-2 c = search laws depth 7
 
@@ -41,5 +45,6 @@ member-at-spec =
     count-in-requires
     member-in-requires
     returns
+    not-there-requires
     returns-2
     returns-3)

@@ -7,6 +7,8 @@ use Rattle.class_members.proofs.member_found.Lts as lts
 use Rattle.class_members.proofs.is_apart.Reads as is-apart-reads
 use Rattle.class_members.proofs.rest_at.Reads as rest-at-reads
 use Rattle.leb128.proofs.uleb.Reads as uleb-reads
+use Rattle.refusal.proofs.out_of_order.Reads as out-of-order-reads
+use Rattle.refusal.proofs.wrong_index.Reads as wrong-index-reads
 
 uleb-requires : tie.Need-uleb-requires
 uleb-requires c κs = search laws depth 7
@@ -39,9 +41,15 @@ returns : tie.Need-returns
 unfolding memberAt
 returns c = search laws depth 7
 
+wrong-index-requires : tie.Need-wrong-index-requires
+wrong-index-requires c κs = search laws depth 7
+
 returns-2 : tie.Need-returns-2
 unfolding memberAt
 returns-2 c = search laws depth 7
+
+out-of-order-requires : tie.Need-out-of-order-requires
+out-of-order-requires c κs = search laws depth 7
 
 returns-3 : tie.Need-returns-3
 unfolding memberAt
@@ -65,6 +73,8 @@ member-found-spec =
     cast-rest-at
     rest-at-requires
     returns
+    wrong-index-requires
     returns-2
+    out-of-order-requires
     returns-3
     returns-4)

@@ -6,6 +6,7 @@ use Rattle.class_members.proofs.offset_at.Reads as reads
 use Rattle.class_members.proofs.offset_at.Lts as lts
 use Rattle.frame.proofs.is_allowed_or_absent.Reads as is-allowed-or-absent-reads
 use Rattle.leb128.proofs.uleb.Reads as uleb-reads
+use Rattle.refusal.proofs.wrong_offset.Reads as wrong-offset-reads
 
 uleb-requires : tie.Need-uleb-requires
 uleb-requires c κs = search laws depth 7
@@ -26,6 +27,9 @@ returns : tie.Need-returns
 unfolding offsetAt
 returns c = search laws depth 7
 
+wrong-offset-requires : tie.Need-wrong-offset-requires
+wrong-offset-requires c κs = search laws depth 7
+
 returns-2 : tie.Need-returns-2
 unfolding offsetAt
 returns-2 c = search laws depth 7
@@ -44,5 +48,6 @@ offset-at-spec =
     cast-is-allowed-or-absent
     is-allowed-or-absent-requires
     returns
+    wrong-offset-requires
     returns-2
     returns-3)

@@ -6,6 +6,7 @@ use Rattle.code_bodies.proofs.links_at.Reads as reads
 use Rattle.code_bodies.proofs.links_at.Lts as lts
 use Rattle.code_bodies.proofs.newer_number.Reads as newer-number-reads
 use Rattle.handlers.proofs.handler_found.Reads as handler-found-reads
+use Rattle.refusal.proofs.wrong_code.Reads as wrong-code-reads
 use Rattle.word.proofs.u16_at.Reads as u16-at-reads
 
 abbrev Inv-loop : tie.InvT-loop
@@ -77,6 +78,9 @@ loop-less c = search laws
 loop-again : tie.Need-loop-again Inv-loop μ-loop Inv-tries μ-tries
 loop-again c = search laws
 
+wrong-code-requires : tie.Need-wrong-code-requires Inv-loop μ-loop Inv-tries μ-tries
+wrong-code-requires c κs = search laws
+
 returns-2 : tie.Need-returns-2 Inv-loop μ-loop Inv-tries μ-tries
 returns-2 c = search laws
 
@@ -110,5 +114,6 @@ links-at-spec =
     sub-unseen
     loop-less
     loop-again
+    wrong-code-requires
     returns-2
     returns-3)

@@ -6,6 +6,7 @@ use Rattle.code_bodies.proofs.tries_found.Lts as lts
 use Rattle.code_bodies.proofs.is_try_allowed.Reads as is-try-allowed-reads
 use Rattle.code_bodies.proofs.newer_try.Reads as newer-try-reads
 use Rattle.code_bodies.proofs.try_read.Reads as try-read-reads
+use Rattle.refusal.proofs.wrong_code.Reads as wrong-code-reads
 
 abbrev Inv-loop : tie.InvT-loop
 Inv-loop s order units item from count k place₀ floor₀ kept₀ i₀ left₀ place floor kept i left = Trying order s units item from count k left place floor i kept
@@ -33,6 +34,9 @@ cast-floor-2 c = search laws
 
 add-floor : tie.Need-add-floor Inv-loop μ-loop
 add-floor c = search laws
+
+wrong-code-requires : tie.Need-wrong-code-requires Inv-loop μ-loop
+wrong-code-requires c κs = search laws
 
 returns : tie.Need-returns Inv-loop μ-loop
 returns c = search laws
@@ -68,6 +72,7 @@ tries-found-spec =
     cast-floor
     cast-floor-2
     add-floor
+    wrong-code-requires
     returns
     add-place
     add-i

@@ -4,14 +4,22 @@ use Rattle.code_heads.proofs.head_at.Tie as tie
 use Rattle.code_heads.proofs.head_at.Reads as reads
 use Rattle.code_heads.proofs.head_at.Lts as lts
 use Rattle.frame.proofs.is_allowed_or_absent.Reads as is-allowed-or-absent-reads
+use Rattle.refusal.proofs.runs_past.Reads as runs-past-reads
+use Rattle.refusal.proofs.wrong_offset.Reads as wrong-offset-reads
 use Rattle.word.proofs.u16_at.Reads as u16-at-reads
 use Rattle.word.proofs.u32_at.Reads as u32-at-reads
+
+runs-past-requires : tie.Need-runs-past-requires
+runs-past-requires c κs = search laws
 
 returns : tie.Need-returns
 returns c = search laws
 
 sub-if2 : tie.Need-sub-if2
 sub-if2 c = search laws
+
+runs-past-requires-2 : tie.Need-runs-past-requires-2
+runs-past-requires-2 c κs = search laws
 
 returns-2 : tie.Need-returns-2
 returns-2 c = search laws
@@ -30,6 +38,9 @@ is-allowed-or-absent-requires c κs = search laws
 
 sub-if4 : tie.Need-sub-if4
 sub-if4 c = search laws
+
+runs-past-requires-3 : tie.Need-runs-past-requires-3
+runs-past-requires-3 c κs = search laws
 
 returns-3 : tie.Need-returns-3
 returns-3 c = search laws
@@ -64,6 +75,9 @@ u32-at-requires-2 c κs = search laws
 returns-4 : tie.Need-returns-4
 returns-4 c = search laws
 
+wrong-offset-requires : tie.Need-wrong-offset-requires
+wrong-offset-requires c κs = search laws
+
 returns-5 : tie.Need-returns-5
 returns-5 c = search laws
 
@@ -71,14 +85,17 @@ pub head-at-spec : {M : Type 1} → statement M
 head-at-spec =
     tie.close
     (tie.spec
+    runs-past-requires
     returns
     sub-if2
+    runs-past-requires-2
     returns-2
     add-u32-at
     u32-at-requires
     cast-is-allowed-or-absent
     is-allowed-or-absent-requires
     sub-if4
+    runs-past-requires-3
     returns-3
     u16-at-requires
     add-u16-at
@@ -90,4 +107,5 @@ head-at-spec =
     add-u32-at-2
     u32-at-requires-2
     returns-4
+    wrong-offset-requires
     returns-5)

@@ -4,6 +4,7 @@ use Rattle.code_item.proofs.try_at.Tie as tie
 use Rattle.code_item.proofs.try_at.Reads as reads
 use Rattle.code_item.proofs.try_at.Lts as lts
 use Rattle.code_bodies.proofs.kept_at.Reads as kept-at-reads
+use Rattle.refusal.proofs.not_there.Reads as not-there-reads
 
 kept-at-requires : tie.Need-kept-at-requires
 kept-at-requires c κs = search laws depth 7
@@ -20,6 +21,9 @@ cast-if1 c = search laws depth 7
 returns : tie.Need-returns
 returns c = search laws depth 7
 
+not-there-requires : tie.Need-not-there-requires
+not-there-requires c κs = search laws depth 7
+
 returns-2 : tie.Need-returns-2
 returns-2 c = search laws depth 7
 
@@ -29,4 +33,12 @@ returns-3 c = search laws depth 7
 pub try-at-spec : {M : Type 1} → statement M
 try-at-spec =
     tie.close
-    (tie.spec kept-at-requires enum-known-r enum-known-head cast-if1 returns returns-2 returns-3)
+    (tie.spec
+    kept-at-requires
+    enum-known-r
+    enum-known-head
+    cast-if1
+    returns
+    not-there-requires
+    returns-2
+    returns-3)

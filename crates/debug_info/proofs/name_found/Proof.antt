@@ -5,6 +5,7 @@ use Rattle.debug_info.proofs.name_found.Tie as tie
 use Rattle.debug_info.proofs.name_found.Reads as reads
 use Rattle.debug_info.proofs.name_found.Lts as lts
 use Rattle.leb128.proofs.uleb_p1.Reads as uleb-p1-reads
+use Rattle.refusal.proofs.wrong_index.Reads as wrong-index-reads
 
 uleb-p1-requires : tie.Need-uleb-p1-requires
 uleb-p1-requires c κs = search laws depth 7
@@ -21,6 +22,9 @@ enum-known-value c = search laws depth 7
 returns : tie.Need-returns
 unfolding nameAt
 returns c = search laws depth 7
+
+wrong-index-requires : tie.Need-wrong-index-requires
+wrong-index-requires c κs = search laws depth 7
 
 returns-2 : tie.Need-returns-2
 unfolding nameAt
@@ -43,6 +47,7 @@ name-found-spec =
     enum-known-next
     enum-known-value
     returns
+    wrong-index-requires
     returns-2
     returns-3
     returns-4)

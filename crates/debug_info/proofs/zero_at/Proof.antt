@@ -5,6 +5,7 @@ use Rattle.debug_info.proofs.zero_at.Statement.{statement}
 use Rattle.debug_info.proofs.zero_at.Tie as tie
 use Rattle.debug_info.proofs.zero_at.Reads as reads
 use Rattle.debug_info.proofs.zero_at.Lts as lts
+use Rattle.refusal.proofs.runs_past.Reads as runs-past-reads
 
 abbrev Inv-loop : tie.InvT-loop
 Inv-loop s item start p₀ p = Head s item start p
@@ -30,6 +31,9 @@ loop-again c = search laws
 returns : tie.Need-returns Inv-loop μ-loop
 returns c = search laws
 
+runs-past-requires : tie.Need-runs-past-requires Inv-loop μ-loop
+runs-past-requires c κs = search laws
+
 returns-2 : tie.Need-returns-2 Inv-loop μ-loop
 returns-2 c = search laws
 
@@ -45,4 +49,5 @@ zero-at-spec =
     loop-less
     loop-again
     returns
+    runs-past-requires
     returns-2)

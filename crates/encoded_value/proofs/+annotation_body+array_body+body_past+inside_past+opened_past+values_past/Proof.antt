@@ -23,6 +23,7 @@ use Rattle.encoded_value.proofs.+annotation_body+array_body+body_past+i
 use Rattle.encoded_value.proofs.index_past.Reads as index-past-reads
 use Rattle.encoded_value.proofs.plain_past.Reads as plain-past-reads
 use Rattle.leb128.proofs.uleb.Reads as uleb-reads
+use Rattle.refusal.proofs.nested_too_deep.Reads as nested-too-deep-reads
 use Rattle.value_heads.proofs.head_at.Reads as head-at-reads
 use Rattle.encoded_value.proofs.+annotation_body+array_body+body_past+inside_past+opened_past+values_past.{
   statement,
@@ -126,7 +127,10 @@ array-body-returns t c = search laws
 
 -- a need of `body-past`, at each measure t
 abbrev Body-past : (body-past-lts.Claims → In 1 body-past-kinds.ps → Out 1 body-past-kinds.ps body-past-kinds.r → Type 0) → Type 0
-Body-past N = (t : ℕ) → N (index-past-reads.Asked, index-past-reads.Learnt, uleb-reads.Asked, uleb-reads.Learnt, values-past-below t, values-past.Post) (body-past-at t) body-past.Post
+Body-past N = (t : ℕ) → N (nested-too-deep-reads.Asked, nested-too-deep-reads.Learnt, index-past-reads.Asked, index-past-reads.Learnt, uleb-reads.Asked, uleb-reads.Learnt, values-past-below t, values-past.Post) (body-past-at t) body-past.Post
+
+body-past-nested-too-deep-requires : Body-past body-past-lts.Need-nested-too-deep-requires
+body-past-nested-too-deep-requires t c κs = search laws
 
 body-past-returns : Body-past body-past-lts.Need-returns
 body-past-returns t c = search laws
@@ -289,6 +293,8 @@ pub +annotation-body+array-body+body-past+inside-past+opened-past+values-past-sp
     (array-body-body-past-requires t)
     (array-body-returns t))
     (λ t. body-past-lts.spec (
+      nested-too-deep-reads.Asked,
+      nested-too-deep-reads.Learnt,
       index-past-reads.Asked,
       index-past-reads.Learnt,
       uleb-reads.Asked,
@@ -298,6 +304,7 @@ pub +annotation-body+array-body+body-past+inside-past+opened-past+values-past-sp
     )
     (body-past-at t)
     body-past.Post
+    (body-past-nested-too-deep-requires t)
     (body-past-returns t)
     (body-past-index-past-requires t)
     (body-past-enum-known-r t)

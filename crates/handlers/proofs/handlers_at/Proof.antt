@@ -6,6 +6,7 @@ use Rattle.handlers.proofs.handlers_at.Reads as reads
 use Rattle.handlers.proofs.handlers_at.Lts as lts
 use Rattle.handlers.proofs.list_found.Reads as list-found-reads
 use Rattle.leb128.proofs.uleb.Reads as uleb-reads
+use Rattle.refusal.proofs.wrong_code.Reads as wrong-code-reads
 
 uleb-requires : tie.Need-uleb-requires
 uleb-requires c κs = search laws depth 9
@@ -33,6 +34,9 @@ returns-2 : tie.Need-returns-2
 unfolding stagedAt
 returns-2 c = search laws depth 9
 
+wrong-code-requires : tie.Need-wrong-code-requires
+wrong-code-requires c κs = search laws depth 9
+
 returns-3 : tie.Need-returns-3
 unfolding stagedAt
 returns-3 c = search laws depth 9
@@ -53,5 +57,6 @@ handlers-at-spec =
     enum-known-brief
     returns
     returns-2
+    wrong-code-requires
     returns-3
     returns-4)

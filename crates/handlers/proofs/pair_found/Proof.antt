@@ -6,6 +6,7 @@ use Rattle.handlers.proofs.pair_found.Reads as reads
 use Rattle.handlers.proofs.pair_found.Lts as lts
 use Rattle.handlers.proofs.address_at.Reads as address-at-reads
 use Rattle.leb128.proofs.uleb.Reads as uleb-reads
+use Rattle.refusal.proofs.wrong_index.Reads as wrong-index-reads
 
 uleb-requires : tie.Need-uleb-requires
 uleb-requires c κs = search laws depth 8
@@ -33,6 +34,9 @@ returns-2 : tie.Need-returns-2
 unfolding pairAt
 returns-2 c = search laws depth 8
 
+wrong-index-requires : tie.Need-wrong-index-requires
+wrong-index-requires c κs = search laws depth 8
+
 returns-3 : tie.Need-returns-3
 unfolding pairAt
 returns-3 c = search laws depth 8
@@ -53,5 +57,6 @@ pair-found-spec =
     enum-known-address
     returns
     returns-2
+    wrong-index-requires
     returns-3
     returns-4)

@@ -4,6 +4,7 @@ use Rattle.header.proofs.section_at.Statement.{statement}
 use Rattle.header.proofs.section_at.Tie as tie
 use Rattle.header.proofs.section_at.Reads as reads
 use Rattle.header.proofs.section_at.Lts as lts
+use Rattle.refusal.proofs.out_of_bounds.Reads as out-of-bounds-reads
 use Rattle.word.proofs.u32_at.Reads as u32-at-reads
 
 u32-at-requires : tie.Need-u32-at-requires
@@ -18,12 +19,18 @@ u32-at-requires-2 c κs = search laws
 cast-start : tie.Need-cast-start
 cast-start c = search laws
 
+out-of-bounds-requires : tie.Need-out-of-bounds-requires
+out-of-bounds-requires c κs = search laws
+
 returns : tie.Need-returns
 unfolding sectionOf
 returns c = search laws
 
 add-if2 : tie.Need-add-if2
 add-if2 c = search laws
+
+out-of-bounds-requires-2 : tie.Need-out-of-bounds-requires-2
+out-of-bounds-requires-2 c κs = search laws
 
 returns-2 : tie.Need-returns-2
 unfolding sectionOf
@@ -44,8 +51,10 @@ section-at-spec =
     cast-size
     u32-at-requires-2
     cast-start
+    out-of-bounds-requires
     returns
     add-if2
+    out-of-bounds-requires-2
     returns-2
     add-t8
     returns-3)

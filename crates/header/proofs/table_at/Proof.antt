@@ -5,6 +5,7 @@ use Rattle.header.proofs.table_at.Tie as tie
 use Rattle.header.proofs.table_at.Reads as reads
 use Rattle.header.proofs.table_at.Lts as lts
 use Rattle.header.proofs.is_table_allowed.Reads as is-table-allowed-reads
+use Rattle.refusal.proofs.out_of_bounds.Reads as out-of-bounds-reads
 use Rattle.word.proofs.u32_at.Reads as u32-at-reads
 
 u32-at-requires : tie.Need-u32-at-requires
@@ -23,6 +24,9 @@ returns : tie.Need-returns
 unfolding tableOf
 returns c = search laws
 
+out-of-bounds-requires : tie.Need-out-of-bounds-requires
+out-of-bounds-requires c κs = search laws
+
 returns-2 : tie.Need-returns-2
 unfolding tableOf
 returns-2 c = search laws
@@ -36,4 +40,5 @@ table-at-spec =
     u32-at-requires-2
     is-table-allowed-requires
     returns
+    out-of-bounds-requires
     returns-2)

@@ -6,6 +6,7 @@ use Rattle.header.proofs.versioned.Lts as lts
 use Rattle.header.proofs.body_at.Reads as body-at-reads
 use Rattle.header.proofs.order_at.Reads as order-at-reads
 use Rattle.header.proofs.version_at.Reads as version-at-reads
+use Rattle.refusal.proofs.wrong_magic.Reads as wrong-magic-reads
 
 version-at-requires : tie.Need-version-at-requires
 version-at-requires c κs = search laws
@@ -28,6 +29,9 @@ returns c = search laws
 returns-2 : tie.Need-returns-2
 returns-2 c = search laws
 
+wrong-magic-requires : tie.Need-wrong-magic-requires
+wrong-magic-requires c κs = search laws
+
 returns-3 : tie.Need-returns-3
 returns-3 c = search laws
 
@@ -42,4 +46,5 @@ versioned-spec =
     body-at-requires
     returns
     returns-2
+    wrong-magic-requires
     returns-3)

@@ -4,6 +4,8 @@ use Rattle.ids.proofs.handle_at.Statement.{statement}
 use Rattle.ids.proofs.handle_at.Tie as tie
 use Rattle.ids.proofs.handle_at.Reads as reads
 use Rattle.ids.proofs.handle_at.Lts as lts
+use Rattle.refusal.proofs.unknown_kind.Reads as unknown-kind-reads
+use Rattle.refusal.proofs.wrong_index.Reads as wrong-index-reads
 use Rattle.word.proofs.u16_at.Reads as u16-at-reads
 
 mul-place : tie.Need-mul-place
@@ -27,6 +29,9 @@ u16-at-requires-2 c κs = search laws depth 7
 cast-number : tie.Need-cast-number
 cast-number c = search laws depth 7
 
+unknown-kind-requires : tie.Need-unknown-kind-requires
+unknown-kind-requires c κs = search laws depth 7
+
 returns : tie.Need-returns
 unfolding handleOf
 returns c = search laws depth 7
@@ -35,6 +40,9 @@ returns-2 : tie.Need-returns-2
 unfolding handleOf
 returns-2 c = search laws depth 7
 
+wrong-index-requires : tie.Need-wrong-index-requires
+wrong-index-requires c κs = search laws depth 7
+
 returns-3 : tie.Need-returns-3
 unfolding handleOf
 returns-3 c = search laws depth 7
@@ -42,6 +50,9 @@ returns-3 c = search laws depth 7
 returns-4 : tie.Need-returns-4
 unfolding handleOf
 returns-4 c = search laws depth 7
+
+wrong-index-requires-2 : tie.Need-wrong-index-requires-2
+wrong-index-requires-2 c κs = search laws depth 7
 
 returns-5 : tie.Need-returns-5
 unfolding handleOf
@@ -58,8 +69,11 @@ handle-at-spec =
     add-u16-at
     u16-at-requires-2
     cast-number
+    unknown-kind-requires
     returns
     returns-2
+    wrong-index-requires
     returns-3
     returns-4
+    wrong-index-requires-2
     returns-5)

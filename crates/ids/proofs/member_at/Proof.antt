@@ -4,6 +4,7 @@ use Rattle.ids.proofs.member_at.Statement.{statement}
 use Rattle.ids.proofs.member_at.Tie as tie
 use Rattle.ids.proofs.member_at.Reads as reads
 use Rattle.ids.proofs.member_at.Lts as lts
+use Rattle.refusal.proofs.wrong_index.Reads as wrong-index-reads
 use Rattle.word.proofs.u16_at.Reads as u16-at-reads
 use Rattle.word.proofs.u32_at.Reads as u32-at-reads
 
@@ -34,13 +35,22 @@ add-u32-at c = search laws depth 7
 u32-at-requires : tie.Need-u32-at-requires
 u32-at-requires c κs = search laws depth 7
 
+wrong-index-requires : tie.Need-wrong-index-requires
+wrong-index-requires c κs = search laws depth 7
+
 returns : tie.Need-returns
 unfolding memberIdOf
 returns c = search laws depth 7
 
+wrong-index-requires-2 : tie.Need-wrong-index-requires-2
+wrong-index-requires-2 c κs = search laws depth 7
+
 returns-2 : tie.Need-returns-2
 unfolding memberIdOf
 returns-2 c = search laws depth 7
+
+wrong-index-requires-3 : tie.Need-wrong-index-requires-3
+wrong-index-requires-3 c κs = search laws depth 7
 
 returns-3 : tie.Need-returns-3
 unfolding memberIdOf
@@ -63,7 +73,10 @@ member-at-spec =
     cast-kind
     add-u32-at
     u32-at-requires
+    wrong-index-requires
     returns
+    wrong-index-requires-2
     returns-2
+    wrong-index-requires-3
     returns-3
     returns-4)

@@ -5,6 +5,8 @@ use Rattle.ids.proofs.proto_at.Tie as tie
 use Rattle.ids.proofs.proto_at.Reads as reads
 use Rattle.ids.proofs.proto_at.Lts as lts
 use Rattle.frame.proofs.is_allowed_or_absent.Reads as is-allowed-or-absent-reads
+use Rattle.refusal.proofs.wrong_index.Reads as wrong-index-reads
+use Rattle.refusal.proofs.wrong_offset.Reads as wrong-offset-reads
 use Rattle.word.proofs.u32_at.Reads as u32-at-reads
 
 mul-place : tie.Need-mul-place
@@ -28,9 +30,15 @@ add-u32-at-2 c = search laws depth 7
 u32-at-requires-3 : tie.Need-u32-at-requires-3
 u32-at-requires-3 c κs = search laws depth 7
 
+wrong-index-requires : tie.Need-wrong-index-requires
+wrong-index-requires c κs = search laws depth 7
+
 returns : tie.Need-returns
 unfolding protoOf
 returns c = search laws depth 7
+
+wrong-index-requires-2 : tie.Need-wrong-index-requires-2
+wrong-index-requires-2 c κs = search laws depth 7
 
 returns-2 : tie.Need-returns-2
 unfolding protoOf
@@ -45,6 +53,9 @@ is-allowed-or-absent-requires c κs = search laws depth 7
 returns-3 : tie.Need-returns-3
 unfolding protoOf
 returns-3 c = search laws depth 7
+
+wrong-offset-requires : tie.Need-wrong-offset-requires
+wrong-offset-requires c κs = search laws depth 7
 
 returns-4 : tie.Need-returns-4
 unfolding protoOf
@@ -61,9 +72,12 @@ proto-at-spec =
     u32-at-requires-2
     add-u32-at-2
     u32-at-requires-3
+    wrong-index-requires
     returns
+    wrong-index-requires-2
     returns-2
     cast-is-allowed-or-absent
     is-allowed-or-absent-requires
     returns-3
+    wrong-offset-requires
     returns-4)

@@ -4,6 +4,7 @@ use Rattle.leb128.proofs.sleb.Tie as tie
 use Rattle.leb128.proofs.sleb.Reads as reads
 use Rattle.leb128.proofs.sleb.Lts as lts
 use Rattle.leb128.proofs.weigh.Reads as weigh-reads
+use Rattle.refusal.proofs.malformed_number.Reads as malformed-number-reads
 
 shared-slice-read-only : tie.Need-shared-slice-read-only
 shared-slice-read-only c = search laws
@@ -50,6 +51,9 @@ cast-t27 c = search laws
 returns-3 : tie.Need-returns-3
 returns-3 c = search laws
 
+malformed-number-requires : tie.Need-malformed-number-requires
+malformed-number-requires c κs = search laws
+
 returns-4 : tie.Need-returns-4
 returns-4 c = search laws
 
@@ -67,6 +71,9 @@ sub-t30 c = search laws
 
 returns-5 : tie.Need-returns-5
 returns-5 c = search laws
+
+malformed-number-requires-2 : tie.Need-malformed-number-requires-2
+malformed-number-requires-2 c κs = search laws
 
 returns-6 : tie.Need-returns-6
 returns-6 c = search laws
@@ -93,11 +100,13 @@ sleb-spec =
     mul-if4
     cast-t27
     returns-3
+    malformed-number-requires
     returns-4
     sub-below
     sub-low-2
     cast-low-2
     sub-t30
     returns-5
+    malformed-number-requires-2
     returns-6
     returns-7)

@@ -4,6 +4,7 @@ use Rattle.leb128.proofs.uleb.Tie as tie
 use Rattle.leb128.proofs.uleb.Reads as reads
 use Rattle.leb128.proofs.uleb.Lts as lts
 use Rattle.leb128.proofs.weigh.Reads as weigh-reads
+use Rattle.refusal.proofs.malformed_number.Reads as malformed-number-reads
 
 shared-slice-read-only : tie.Need-shared-slice-read-only
 shared-slice-read-only c = search laws
@@ -32,6 +33,9 @@ cast-t18 c = search laws
 returns-2 : tie.Need-returns-2
 returns-2 c = search laws
 
+malformed-number-requires : tie.Need-malformed-number-requires
+malformed-number-requires c κs = search laws
+
 returns-3 : tie.Need-returns-3
 returns-3 c = search laws
 
@@ -51,5 +55,6 @@ uleb-spec =
     enum-known-value
     cast-t18
     returns-2
+    malformed-number-requires
     returns-3
     returns-4)

@@ -4,6 +4,8 @@ use Rattle.leb128.proofs.weigh.Statement.{statement}
 use Rattle.leb128.proofs.weigh.Tie as tie
 use Rattle.leb128.proofs.weigh.Reads as reads
 use Rattle.leb128.proofs.weigh.Lts as lts
+use Rattle.refusal.proofs.malformed_number.Reads as malformed-number-reads
+use Rattle.refusal.proofs.runs_past.Reads as runs-past-reads
 
 abbrev Inv-loop : tie.InvT-loop
 Inv-loop s at item p₀ value₀ scale₀ left₀ p value scale left = Head s item at p value scale left
@@ -14,6 +16,9 @@ abbrev μ-loop : tie.MeasureT-loop
 loop-holds : tie.Need-loop-holds Inv-loop μ-loop
 loop-holds c = search laws
 
+runs-past-requires : tie.Need-runs-past-requires Inv-loop μ-loop
+runs-past-requires c κs = search laws
+
 returns : tie.Need-returns Inv-loop μ-loop
 returns c = search laws
 
@@ -21,7 +26,7 @@ shared-slice-read-b : tie.Need-shared-slice-read-b Inv-loop μ-loop
 shared-slice-read-b c = search laws
 
 cast-b : tie.Need-cast-b Inv-loop μ-loop
-cast-b c = search (byte-fits, c .shared-slice-known .given)
+cast-b c = search (byte-fits, c .shared-slice-known2 .given)
 
 add-p : tie.Need-add-p Inv-loop μ-loop
 add-p c = search laws
@@ -56,6 +61,9 @@ loop-less c = search laws
 loop-again : tie.Need-loop-again Inv-loop μ-loop
 loop-again c = search laws
 
+malformed-number-requires : tie.Need-malformed-number-requires Inv-loop μ-loop
+malformed-number-requires c κs = search laws
+
 returns-3 : tie.Need-returns-3 Inv-loop μ-loop
 returns-3 c = search laws
 
@@ -66,6 +74,7 @@ weigh-spec =
     Inv-loop
     μ-loop
     loop-holds
+    runs-past-requires
     returns
     shared-slice-read-b
     cast-b
@@ -80,4 +89,5 @@ weigh-spec =
     sub-left
     loop-less
     loop-again
+    malformed-number-requires
     returns-3)

@@ -6,6 +6,7 @@ use Rattle.map_list.proofs.map_of.Lts as lts
 use Rattle.frame.proofs.is_allowed.Reads as is-allowed-reads
 use Rattle.header.proofs.up_to_end.Reads as up-to-end-reads
 use Rattle.map_list.proofs.list_at.Reads as list-at-reads
+use Rattle.refusal.proofs.wrong_offset.Reads as wrong-offset-reads
 
 up-to-end-requires : tie.Need-up-to-end-requires
 up-to-end-requires c κs = search laws
@@ -19,9 +20,19 @@ list-at-requires c κs = search laws
 returns : tie.Need-returns
 returns c = search laws
 
+wrong-offset-requires : tie.Need-wrong-offset-requires
+wrong-offset-requires c κs = search laws
+
 returns-2 : tie.Need-returns-2
 returns-2 c = search laws
 
 pub map-of-spec : {M : Type 1} → statement M
 map-of-spec =
-    tie.close (tie.spec up-to-end-requires is-allowed-requires list-at-requires returns returns-2)
+    tie.close
+    (tie.spec
+    up-to-end-requires
+    is-allowed-requires
+    list-at-requires
+    returns
+    wrong-offset-requires
+    returns-2)

@@ -9,6 +9,7 @@ use Rattle.map_list.proofs.code_of.Reads as code-of-reads
 use Rattle.map_list.proofs.entry_at.Reads as entry-at-reads
 use Rattle.map_list.proofs.handles_of.Reads as handles-of-reads
 use Rattle.map_list.proofs.is_next_allowed.Reads as is-next-allowed-reads
+use Rattle.refusal.proofs.wrong_map.Reads as wrong-map-reads
 
 abbrev Inv-loop : tie.InvT-loop
 Inv-loop s j from count order seen₀ handles₀ place₀ floor₀ left₀ seen handles place floor left = Scanning s j from count left place floor seen handles × ((length seen ≡ 21) × (order ≡ j .order))
@@ -24,6 +25,9 @@ entry-at-requires c κs = search laws
 
 code-of-requires : tie.Need-code-of-requires Inv-loop μ-loop
 code-of-requires c κs = search laws
+
+wrong-map-requires : tie.Need-wrong-map-requires Inv-loop μ-loop
+wrong-map-requires c κs = search laws
 
 returns : tie.Need-returns Inv-loop μ-loop
 returns c = search laws
@@ -45,6 +49,9 @@ cast-floor c = search laws
 
 add-floor : tie.Need-add-floor Inv-loop μ-loop
 add-floor c = search laws
+
+wrong-map-requires-2 : tie.Need-wrong-map-requires-2 Inv-loop μ-loop
+wrong-map-requires-2 c κs = search laws
 
 returns-2 : tie.Need-returns-2 Inv-loop μ-loop
 returns-2 c = search laws
@@ -73,6 +80,7 @@ scan-spec =
     loop-holds
     entry-at-requires
     code-of-requires
+    wrong-map-requires
     returns
     array-read-is-next-allowed
     is-next-allowed-requires
@@ -80,6 +88,7 @@ scan-spec =
     handles-of-requires
     cast-floor
     add-floor
+    wrong-map-requires-2
     returns-2
     add-place
     sub-left

@@ -5,10 +5,14 @@ use Rattle.named_report.proofs.output_into.Reads as reads
 use Rattle.named_report.proofs.output_into.Lts as lts
 use Rattle.named_report.proofs.heading_size.Reads as heading-size-reads
 use Rattle.named_report.proofs.put_heading.Reads as put-heading-reads
+use Rattle.refusal.proofs.no_room.Reads as no-room-reads
 use Rattle.report.proofs.verdict_into.Reads as verdict-into-reads
 
 heading-size-requires : tie.Need-heading-size-requires
 heading-size-requires c κs = search laws
+
+no-room-requires : tie.Need-no-room-requires
+no-room-requires c κs = search laws
 
 returns : tie.Need-returns
 returns c = search laws
@@ -54,6 +58,7 @@ output-into-spec =
     tie.close
     (tie.spec
     heading-size-requires
+    no-room-requires
     returns
     sub-verdict-into
     part-verdict-into-start

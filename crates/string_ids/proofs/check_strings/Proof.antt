@@ -5,15 +5,16 @@ use Rattle.string_ids.proofs.check_strings.Tie as tie
 use Rattle.string_ids.proofs.check_strings.Reads as reads
 use Rattle.string_ids.proofs.check_strings.Lts as lts
 use Rattle.header.proofs.up_to_end.Reads as up-to-end-reads
+use Rattle.refusal.proofs.out_of_order.Reads as out-of-order-reads
 use Rattle.string_ids.proofs.place_of.Reads as place-of-reads
 use Rattle.string_ids.proofs.rises.Reads as rises-reads
 use Rattle.string_ids.proofs.string_at.Reads as string-at-reads
 
 abbrev Inv-loop : tie.InvT-loop
-Inv-loop f h s last₀ n₀ more₀ last n more = Checking f h s more n last
+Inv-loop f header s last₀ n₀ more₀ last n more = Checking f header s more n last
 
 abbrev μ-loop : tie.MeasureT-loop
-μ-loop f h s last₀ n₀ more₀ last n more = more
+μ-loop f header s last₀ n₀ more₀ last n more = more
 
 up-to-end-requires : tie.Need-up-to-end-requires Inv-loop μ-loop
 up-to-end-requires c κs = search laws
@@ -38,6 +39,9 @@ rises-requires c κs = search laws
 
 place-of-requires : tie.Need-place-of-requires Inv-loop μ-loop
 place-of-requires c κs = search laws
+
+out-of-order-requires : tie.Need-out-of-order-requires Inv-loop μ-loop
+out-of-order-requires c κs = search laws
 
 returns-2 : tie.Need-returns-2 Inv-loop μ-loop
 returns-2 c = search laws
@@ -71,6 +75,7 @@ check-strings-spec =
     enum-known-start
     rises-requires
     place-of-requires
+    out-of-order-requires
     returns-2
     add-n
     sub-more

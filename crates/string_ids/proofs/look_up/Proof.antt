@@ -4,6 +4,7 @@ use Rattle.string_ids.proofs.look_up.Tie as tie
 use Rattle.string_ids.proofs.look_up.Reads as reads
 use Rattle.string_ids.proofs.look_up.Lts as lts
 use Rattle.header.proofs.up_to_end.Reads as up-to-end-reads
+use Rattle.refusal.proofs.out_of_order.Reads as out-of-order-reads
 use Rattle.string_ids.proofs.found_with.Reads as found-with-reads
 use Rattle.string_ids.proofs.place_of.Reads as place-of-reads
 use Rattle.string_ids.proofs.rises.Reads as rises-reads
@@ -11,10 +12,10 @@ use Rattle.string_ids.proofs.string_at.Reads as string-at-reads
 use Rattle.word.proofs.bytes_at.Reads as bytes-at-reads
 
 abbrev Inv-loop : tie.InvT-loop
-Inv-loop f h text s last₀ found₀ k₀ left₀ last found k left = Looking f h text s left k last found
+Inv-loop f header text s last₀ found₀ k₀ left₀ last found k left = Looking f header text s left k last found
 
 abbrev μ-loop : tie.MeasureT-loop
-μ-loop f h text s last₀ found₀ k₀ left₀ last found k left = left
+μ-loop f header text s last₀ found₀ k₀ left₀ last found k left = left
 
 up-to-end-requires : tie.Need-up-to-end-requires Inv-loop μ-loop
 up-to-end-requires c κs = search laws
@@ -45,6 +46,9 @@ found-with-requires c κs = search laws
 
 place-of-requires : tie.Need-place-of-requires Inv-loop μ-loop
 place-of-requires c κs = search laws
+
+out-of-order-requires : tie.Need-out-of-order-requires Inv-loop μ-loop
+out-of-order-requires c κs = search laws
 
 returns-2 : tie.Need-returns-2 Inv-loop μ-loop
 returns-2 c = search laws
@@ -80,6 +84,7 @@ look-up-spec =
     bytes-at-requires
     found-with-requires
     place-of-requires
+    out-of-order-requires
     returns-2
     add-k
     sub-left

@@ -5,6 +5,7 @@ use Rattle.string_ids.proofs.record_at.Tie as tie
 use Rattle.string_ids.proofs.record_at.Reads as reads
 use Rattle.string_ids.proofs.record_at.Lts as lts
 use Rattle.frame.proofs.is_allowed.Reads as is-allowed-reads
+use Rattle.refusal.proofs.wrong_offset.Reads as wrong-offset-reads
 use Rattle.string_ids.proofs.place_of.Reads as place-of-reads
 use Rattle.word.proofs.u32_at.Reads as u32-at-reads
 
@@ -24,6 +25,9 @@ returns : tie.Need-returns
 unfolding recordOf
 returns c = search laws
 
+wrong-offset-requires : tie.Need-wrong-offset-requires
+wrong-offset-requires c κs = search laws
+
 returns-2 : tie.Need-returns-2
 unfolding recordOf
 returns-2 c = search laws
@@ -31,4 +35,11 @@ returns-2 c = search laws
 pub record-at-spec : {M : Type 1} → statement M
 record-at-spec =
     tie.close
-    (tie.spec place-of-requires u32-at-requires cast-offset is-allowed-requires returns returns-2)
+    (tie.spec
+    place-of-requires
+    u32-at-requires
+    cast-offset
+    is-allowed-requires
+    returns
+    wrong-offset-requires
+    returns-2)

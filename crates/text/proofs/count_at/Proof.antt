@@ -5,6 +5,7 @@ use Rattle.text.proofs.count_at.Statement.{statement}
 use Rattle.text.proofs.count_at.Tie as tie
 use Rattle.text.proofs.count_at.Reads as reads
 use Rattle.text.proofs.count_at.Lts as lts
+use Rattle.refusal.proofs.runs_past.Reads as runs-past-reads
 use Rattle.text.proofs.singles_at.Reads as singles-at-reads
 use Rattle.text.proofs.wide_at.Reads as wide-at-reads
 
@@ -74,6 +75,9 @@ loop-less-3 c = search laws
 loop-again-3 : tie.Need-loop-again-3 Inv-loop μ-loop
 loop-again-3 c = search laws
 
+runs-past-requires : tie.Need-runs-past-requires Inv-loop μ-loop
+runs-past-requires c κs = search laws
+
 returns-3 : tie.Need-returns-3 Inv-loop μ-loop
 returns-3 c = search laws
 
@@ -103,4 +107,5 @@ count-at-spec =
     add-units-3
     loop-less-3
     loop-again-3
+    runs-past-requires
     returns-3)

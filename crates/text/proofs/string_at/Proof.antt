@@ -4,6 +4,7 @@ use Rattle.text.proofs.string_at.Tie as tie
 use Rattle.text.proofs.string_at.Reads as reads
 use Rattle.text.proofs.string_at.Lts as lts
 use Rattle.leb128.proofs.uleb.Reads as uleb-reads
+use Rattle.refusal.proofs.malformed_text.Reads as malformed-text-reads
 use Rattle.text.proofs.count_at.Reads as count-at-reads
 
 uleb-requires : tie.Need-uleb-requires
@@ -29,6 +30,9 @@ sub-length c = search laws
 
 cast-if1 : tie.Need-cast-if1
 cast-if1 c = search laws
+
+malformed-text-requires : tie.Need-malformed-text-requires
+malformed-text-requires c κs = search laws
 
 returns : tie.Need-returns
 unfolding stagedAt
@@ -61,6 +65,7 @@ string-at-spec =
     enum-known-units
     sub-length
     cast-if1
+    malformed-text-requires
     returns
     cast-t17
     returns-2

@@ -5,9 +5,14 @@ use Rattle.text.proofs.three_at.Statement.{statement}
 use Rattle.text.proofs.three_at.Tie as tie
 use Rattle.text.proofs.three_at.Reads as reads
 use Rattle.text.proofs.three_at.Lts as lts
+use Rattle.refusal.proofs.malformed_text.Reads as malformed-text-reads
+use Rattle.refusal.proofs.runs_past.Reads as runs-past-reads
 
 sub-if1 : tie.Need-sub-if1
 sub-if1 c = search laws
+
+runs-past-requires : tie.Need-runs-past-requires
+runs-past-requires c κs = search laws
 
 returns : tie.Need-returns
 unfolding threeAt
@@ -17,7 +22,7 @@ shared-slice-read-a : tie.Need-shared-slice-read-a
 shared-slice-read-a c = search laws
 
 cast-a : tie.Need-cast-a
-cast-a c = search (byte-fits, c .shared-slice-known .given)
+cast-a c = search (byte-fits, c .shared-slice-known2 .given)
 
 add-b : tie.Need-add-b
 add-b c = search laws
@@ -26,7 +31,10 @@ shared-slice-read-b : tie.Need-shared-slice-read-b
 shared-slice-read-b c = search laws
 
 cast-b : tie.Need-cast-b
-cast-b c = search (byte-fits, c .shared-slice-known2 .given)
+cast-b c = search (byte-fits, c .shared-slice-known3 .given)
+
+malformed-text-requires : tie.Need-malformed-text-requires
+malformed-text-requires c κs = search laws
 
 returns-2 : tie.Need-returns-2
 unfolding threeAt
@@ -39,7 +47,10 @@ shared-slice-read-c : tie.Need-shared-slice-read-c
 shared-slice-read-c c = search laws
 
 cast-c : tie.Need-cast-c
-cast-c c = search (byte-fits, c .shared-slice-known3 .given)
+cast-c c = search (byte-fits, c .shared-slice-known4 .given)
+
+malformed-text-requires-2 : tie.Need-malformed-text-requires-2
+malformed-text-requires-2 c κs = search laws
 
 returns-3 : tie.Need-returns-3
 unfolding threeAt
@@ -57,6 +68,9 @@ add-unit c = search laws
 add-unit-2 : tie.Need-add-unit-2
 add-unit-2 c = search laws
 
+malformed-text-requires-3 : tie.Need-malformed-text-requires-3
+malformed-text-requires-3 c κs = search laws
+
 returns-4 : tie.Need-returns-4
 unfolding threeAt
 returns-4 c = search laws
@@ -73,21 +87,25 @@ three-at-spec =
     tie.close
     (tie.spec
     sub-if1
+    runs-past-requires
     returns
     shared-slice-read-a
     cast-a
     add-b
     shared-slice-read-b
     cast-b
+    malformed-text-requires
     returns-2
     add-c
     shared-slice-read-c
     cast-c
+    malformed-text-requires-2
     returns-3
     mul-unit
     mul-unit-2
     add-unit
     add-unit-2
+    malformed-text-requires-3
     returns-4
     add-t9
     returns-5)

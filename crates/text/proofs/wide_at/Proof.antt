@@ -4,6 +4,7 @@ use Rattle.text.proofs.wide_at.Statement.{statement}
 use Rattle.text.proofs.wide_at.Tie as tie
 use Rattle.text.proofs.wide_at.Reads as reads
 use Rattle.text.proofs.wide_at.Lts as lts
+use Rattle.refusal.proofs.malformed_text.Reads as malformed-text-reads
 use Rattle.text.proofs.three_at.Reads as three-at-reads
 use Rattle.text.proofs.two_at.Reads as two-at-reads
 
@@ -27,6 +28,9 @@ returns-2 : tie.Need-returns-2
 unfolding wideAt
 returns-2 c = search laws
 
+malformed-text-requires : tie.Need-malformed-text-requires
+malformed-text-requires c κs = search laws
+
 returns-3 : tie.Need-returns-3
 unfolding wideAt
 returns-3 c = search laws
@@ -41,4 +45,5 @@ wide-at-spec =
     shared-slice-read-if2
     three-at-requires
     returns-2
+    malformed-text-requires
     returns-3)

@@ -3,6 +3,7 @@ use Rattle.type_list.proofs.all.Statement.{statement}
 use Rattle.type_list.proofs.all.Tie as tie
 use Rattle.type_list.proofs.all.Reads as reads
 use Rattle.type_list.proofs.all.Lts as lts
+use Rattle.refusal.proofs.wrong_index.Reads as wrong-index-reads
 use Rattle.type_list.proofs.entry_number.Reads as entry-number-reads
 
 abbrev Inv-loop : tie.InvT-loop
@@ -16,6 +17,9 @@ loop-holds c = search laws
 
 entry-number-requires : tie.Need-entry-number-requires Inv-loop μ-loop
 entry-number-requires c κs = search laws
+
+wrong-index-requires : tie.Need-wrong-index-requires Inv-loop μ-loop
+wrong-index-requires c κs = search laws
 
 returns : tie.Need-returns Inv-loop μ-loop
 returns c = search laws
@@ -43,6 +47,7 @@ all-spec =
     μ-loop
     loop-holds
     entry-number-requires
+    wrong-index-requires
     returns
     add-k
     sub-left

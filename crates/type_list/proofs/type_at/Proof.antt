@@ -4,6 +4,7 @@ use Rattle.type_list.proofs.type_at.Statement.{statement}
 use Rattle.type_list.proofs.type_at.Tie as tie
 use Rattle.type_list.proofs.type_at.Reads as reads
 use Rattle.type_list.proofs.type_at.Lts as lts
+use Rattle.refusal.proofs.not_there.Reads as not-there-reads
 use Rattle.type_list.proofs.count_at.Reads as count-at-reads
 use Rattle.type_list.proofs.entry_number.Reads as entry-number-reads
 
@@ -23,6 +24,9 @@ returns : tie.Need-returns
 unfolding numberAt
 returns c = search laws
 
+not-there-requires : tie.Need-not-there-requires
+not-there-requires c κs = search laws
+
 returns-2 : tie.Need-returns-2
 unfolding numberAt
 returns-2 c = search laws
@@ -40,5 +44,6 @@ type-at-spec =
     enum-known-count
     entry-number-requires
     returns
+    not-there-requires
     returns-2
     returns-3)

@@ -3,8 +3,9 @@ use Rattle.value_bodies.proofs.annotation_element.Statement.{statement}
 use Rattle.value_bodies.proofs.annotation_element.Tie as tie
 use Rattle.value_bodies.proofs.annotation_element.Reads as reads
 use Rattle.value_bodies.proofs.annotation_element.Lts as lts
-use Rattle.encoded_value.proofs.top_annotation.Reads as top-annotation-reads
 use Rattle.encoded_value.proofs.annotation_start.Reads as annotation-start-reads
+use Rattle.encoded_value.proofs.top_annotation.Reads as top-annotation-reads
+use Rattle.refusal.proofs.not_there.Reads as not-there-reads
 use Rattle.value_bodies.proofs.kth_element.Reads as kth-element-reads
 
 top-annotation-requires : tie.Need-top-annotation-requires
@@ -31,6 +32,9 @@ kth-element-requires c κs = search laws
 returns : tie.Need-returns
 returns c = search laws
 
+not-there-requires : tie.Need-not-there-requires
+not-there-requires c κs = search laws
+
 returns-2 : tie.Need-returns-2
 returns-2 c = search laws
 
@@ -52,6 +56,7 @@ annotation-element-spec =
     enum-known-count
     kth-element-requires
     returns
+    not-there-requires
     returns-2
     returns-3
     returns-4)

@@ -5,6 +5,7 @@ use Rattle.value_bodies.proofs.array_value.Reads as reads
 use Rattle.value_bodies.proofs.array_value.Lts as lts
 use Rattle.encoded_value.proofs.top_array.Reads as top-array-reads
 use Rattle.leb128.proofs.uleb.Reads as uleb-reads
+use Rattle.refusal.proofs.not_there.Reads as not-there-reads
 use Rattle.value_bodies.proofs.kth_value.Reads as kth-value-reads
 
 top-array-requires : tie.Need-top-array-requires
@@ -31,6 +32,9 @@ kth-value-requires c κs = search laws
 returns : tie.Need-returns
 returns c = search laws
 
+not-there-requires : tie.Need-not-there-requires
+not-there-requires c κs = search laws
+
 returns-2 : tie.Need-returns-2
 returns-2 c = search laws
 
@@ -52,6 +56,7 @@ array-value-spec =
     enum-known-count
     kth-value-requires
     returns
+    not-there-requires
     returns-2
     returns-3
     returns-4)

@@ -4,6 +4,7 @@ use Rattle.value_heads.proofs.checked_number.Statement.{statement}
 use Rattle.value_heads.proofs.checked_number.Tie as tie
 use Rattle.value_heads.proofs.checked_number.Reads as reads
 use Rattle.value_heads.proofs.checked_number.Lts as lts
+use Rattle.refusal.proofs.wrong_index.Reads as wrong-index-reads
 use Rattle.value_heads.proofs.is_in_range.Reads as is-in-range-reads
 use Rattle.value_heads.proofs.number_at.Reads as number-at-reads
 
@@ -23,6 +24,9 @@ returns : tie.Need-returns
 unfolding checkedAt
 returns c = search laws
 
+wrong-index-requires : tie.Need-wrong-index-requires
+wrong-index-requires c κs = search laws
+
 returns-2 : tie.Need-returns-2
 unfolding checkedAt
 returns-2 c = search laws
@@ -40,5 +44,6 @@ checked-number-spec =
     enum-known-value
     is-in-range-requires
     returns
+    wrong-index-requires
     returns-2
     returns-3)

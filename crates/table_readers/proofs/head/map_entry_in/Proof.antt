@@ -6,6 +6,7 @@ use Rattle.table_readers.proofs.head.map_entry_in.Reads as reads
 use Rattle.table_readers.proofs.head.map_entry_in.Lts as lts
 use Rattle.map_list.proofs.entry_number.Reads as entry-number-reads
 use Rattle.map_list.proofs.map_of.Reads as map-of-reads
+use Rattle.refusal.proofs.not_there.Reads as not-there-reads
 
 map-of-requires : tie.Need-map-of-requires
 map-of-requires c κs = search laws
@@ -22,6 +23,9 @@ entry-number-requires c κs = search laws
 returns : tie.Need-returns
 unfolding mapEntryIn
 returns c = search laws
+
+not-there-requires : tie.Need-not-there-requires
+not-there-requires c κs = search laws
 
 returns-2 : tie.Need-returns-2
 unfolding mapEntryIn
@@ -40,5 +44,6 @@ map-entry-in-spec =
     enum-known-m
     entry-number-requires
     returns
+    not-there-requires
     returns-2
     returns-3)
