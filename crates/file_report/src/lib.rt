@@ -1,5 +1,4 @@
 // A file checked, and the report of what the check answers.
-use refusal::Refusal;
 use report::ReportAnswer;
 use verdict::Verdict;
 ghost use mathlib.Core.Path.{_≡_};
@@ -16,10 +15,7 @@ pub fn input_verdict(f: &[u8]) -> Verdict
     ensures { λ r. ⌜ verdict-outcome r ≡ inputAt (now (f .entry)) ⌝ }
 {
     if 65536 < f.len() {
-        return Verdict::Refused(Refusal {
-            number: 20,
-            place: 0,
-        });
+        return Verdict::Refused(refusal::input_too_long());
     }
     whole_check::verdict(f)
 }

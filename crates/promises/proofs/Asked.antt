@@ -43,7 +43,7 @@ module _ {A B C : Type 0} (entry : ℕ → Outcome A) {Below : ℕ → B → Typ
       bind-answer k (sym (passes not-there (lt-ltb n count p) refl) ∙ reads n (found .0) rule) ∙ same (found .0) rule ∙ sym (bind-answer g (pick-there (found .1)))
 
   there-is-none : count ≤ n → (given (ltb n count) not-there (entry n) >>= k) ≡ (pick n l >>= g)
-  there-is-none p = let size = each .count in bind-refused k (sym (fails (entry n) (le-ltb n count p))) ∙ sym (bind-refused g (pick-none l n (omega arith)))
+  there-is-none p = let size = each .count in bind-refused k (sym (fails (entry n) refl (le-ltb n count p))) ∙ sym (bind-refused g (pick-none l n (omega arith)))
 
   pub asked : (given (ltb n count) not-there (entry n) >>= k) ≡ (pick n l >>= g)
   asked = by (either-way n count)

@@ -17,7 +17,7 @@ use Rattle.refusal.specs.declared.CheckAnswer.the-variants as C
 use Rattle.refusal.specs.Outcome.{Outcome, answer, refused, _>>=_, accepted}
 use Rattle.refusal.specs.Rows.{every, follows}
 use Rattle.refusal.specs.Answers.{checked-outcome}
-use Rattle.refusal.proofs.Laws.{calls}
+use Rattle.refusal.proofs.Laws.{calls, refused-by}
 use Rattle.refusal.proofs.Kept.{accepted-answer, accepted-refused}
 use Rattle.refusal.proofs.Loops.{Numbers, numbers-first, numbers-next, numbers-stop, numbers-done, Turns, turns-first, turns-next, turns-stop, turns-fail, turns-done}
 use Rattle.frame.specs.declared.Frame.{Frame}
@@ -81,9 +81,9 @@ module _ {f : List ℕ} {r : Frame} {offset count left k : ℕ} {later : Bool} {
       pub typing-next : b ≡ true → Typing f r offset count (left - 1) (k + 1) true n
       typing-next u = record { turns = turns-next (h .turns) l (sym (ap index-outcome t) ∙ e) (sym g ∙ u); sum = let s = h .sum in omega arith }
 
-      pub typing-fail : {p : ℕ} → b ≡ false → p ≡ offset + 4 * k → refused (out-of-order p) ≡ (typesAt f r offset count >>= accepted)
+      pub typing-fail : {a : Refusal} {p : ℕ} → b ≡ false → a ≡ out-of-order p → p ≡ offset + 4 * k → refused a ≡ (typesAt f r offset count >>= accepted)
       unfolding typesAt
-      typing-fail u q = ap (λ (x : ℕ). refused (out-of-order x)) q ∙ turns-fail (h .turns) accepted l (sym (ap index-outcome t) ∙ e) (sym g ∙ u)
+      typing-fail u made q = refused-by made ∙ ap (λ (x : ℕ). refused (out-of-order x)) q ∙ turns-fail (h .turns) accepted l (sym (ap index-outcome t) ∙ e) (sym g ∙ u)
 
 pub rises-later : {later : Bool} (last string : ℕ) → later ≡ true → ltb last string ≡ rising later last string
 unfolding follows

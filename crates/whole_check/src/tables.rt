@@ -6,7 +6,6 @@ use ids::IndexAnswer;
 use ids::MemberIdAnswer;
 use ids::ProtoAnswer;
 use refusal::CheckAnswer;
-use refusal::Refusal;
 ghost use mathlib.Core.Path.{_≡_};
 ghost use Prim.Native.Nat.{_+_, _*_};
 ghost use Rattle.refusal.specs.Answers.{checked-outcome};
@@ -46,10 +45,7 @@ pub fn types_pass(f: &[u8], frame: Frame, offset: u32, count: u32) -> CheckAnswe
                 if rises(later, last, string) {
                     last = string;
                 } else {
-                    return CheckAnswer::Refused(Refusal {
-                        number: 15,
-                        place: place_of(offset, k),
-                    });
+                    return CheckAnswer::Refused(refusal::out_of_order(place_of(offset, k)));
                 }
             }
         }

@@ -7,6 +7,7 @@ use Rattle.set_readers.proofs.set_number.Lts as lts
 use Rattle.annotation_lists.proofs.set_offset.Reads as set-offset-reads
 use Rattle.header.proofs.plain_frame.Reads as plain-frame-reads
 use Rattle.header.proofs.up_to_end.Reads as up-to-end-reads
+use Rattle.refusal.proofs.not_there.Reads as not-there-reads
 
 up-to-end-requires : tie.Need-up-to-end-requires
 up-to-end-requires c κs = search laws
@@ -21,6 +22,9 @@ returns : tie.Need-returns
 unfolding setNumber
 returns c = search laws
 
+not-there-requires : tie.Need-not-there-requires
+not-there-requires c κs = search laws
+
 returns-2 : tie.Need-returns-2
 unfolding setNumber
 returns-2 c = search laws
@@ -28,4 +32,10 @@ returns-2 c = search laws
 pub set-number-spec : {M : Type 1} → statement M
 set-number-spec =
     tie.close
-    (tie.spec up-to-end-requires plain-frame-requires set-offset-requires returns returns-2)
+    (tie.spec
+    up-to-end-requires
+    plain-frame-requires
+    set-offset-requires
+    returns
+    not-there-requires
+    returns-2)

@@ -6,6 +6,7 @@ use Rattle.table_readers.proofs.tables.method_in.Reads as reads
 use Rattle.table_readers.proofs.tables.method_in.Lts as lts
 use Rattle.header.proofs.plain_frame.Reads as plain-frame-reads
 use Rattle.ids.proofs.member_at.Reads as member-at-reads
+use Rattle.refusal.proofs.not_there.Reads as not-there-reads
 
 plain-frame-requires : tie.Need-plain-frame-requires
 plain-frame-requires c κs = search laws
@@ -17,9 +18,13 @@ returns : tie.Need-returns
 unfolding methodIn
 returns c = search laws
 
+not-there-requires : tie.Need-not-there-requires
+not-there-requires c κs = search laws
+
 returns-2 : tie.Need-returns-2
 unfolding methodIn
 returns-2 c = search laws
 
 pub method-in-spec : {M : Type 1} → statement M
-method-in-spec = tie.close (tie.spec plain-frame-requires member-at-requires returns returns-2)
+method-in-spec =
+    tie.close (tie.spec plain-frame-requires member-at-requires returns not-there-requires returns-2)

@@ -4,14 +4,15 @@ use Rattle.whole_check.proofs.tables.types_pass.Tie as tie
 use Rattle.whole_check.proofs.tables.types_pass.Reads as reads
 use Rattle.whole_check.proofs.tables.types_pass.Lts as lts
 use Rattle.ids.proofs.type_at.Reads as type-at-reads
+use Rattle.refusal.proofs.out_of_order.Reads as out-of-order-reads
 use Rattle.whole_check.proofs.tables.place_of.Reads as place-of-reads
 use Rattle.whole_check.proofs.tables.rises.Reads as rises-reads
 
 abbrev Inv-loop : tie.InvT-loop
-Inv-loop f r offset count later₀ last₀ k₀ left₀ later last k left = Typing f r offset count left k later last
+Inv-loop f frame offset count later₀ last₀ k₀ left₀ later last k left = Typing f frame offset count left k later last
 
 abbrev μ-loop : tie.MeasureT-loop
-μ-loop f r offset count later₀ last₀ k₀ left₀ later last k left = left
+μ-loop f frame offset count later₀ last₀ k₀ left₀ later last k left = left
 
 loop-holds : tie.Need-loop-holds Inv-loop μ-loop
 loop-holds c = search laws
@@ -33,6 +34,9 @@ rises-requires c κs = search laws
 
 place-of-requires : tie.Need-place-of-requires Inv-loop μ-loop
 place-of-requires c κs = search laws
+
+out-of-order-requires : tie.Need-out-of-order-requires Inv-loop μ-loop
+out-of-order-requires c κs = search laws
 
 returns-2 : tie.Need-returns-2 Inv-loop μ-loop
 returns-2 c = search laws
@@ -65,6 +69,7 @@ types-pass-spec =
     enum-known-string
     rises-requires
     place-of-requires
+    out-of-order-requires
     returns-2
     add-k
     sub-left
