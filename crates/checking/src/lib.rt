@@ -1,11 +1,14 @@
-// What the programs do: read an input whole, have it checked, write its report, and tell what it all came to. What is read and written no contract can say.
+// What the programs do: read an input whole, have it checked, write its report, and tell what it all came to. The parts that are public serve `registering` too. What is read and written no contract can say.
 use report::ReportAnswer;
+use verdict::Verdict;
 ghost use mathlib.Core.Path.{_≡_};
 ghost use Prim.Native.Nat.{_≤_, max};
-ghost use Rattle.checking.specs.Status.{digit, Comes};
+ghost use lib.ListN.{length};
+ghost use Rattle.verdict.specs.Answers.{verdict-outcome};
+ghost use Rattle.checking.specs.Status.{digit, Tells, Comes, Within};
 
 // One byte more than is taken, so that an input that is too long is known to be.
-const ROOM: usize = 65537;
+pub const ROOM: usize = 65537;
 
 // Room for the line of the longest path, 4,096 bytes and 6, and for the longest report, 288.
 const OUT: usize = 4390;
@@ -16,10 +19,17 @@ const STATUS_FILENO: i32 = 9;
 // What an input comes to where it has no report, and where what was to be written could not be: after that nothing more is read.
 const UNREAD: u8 = 2;
 
-const UNWRITTEN: u8 = 3;
+pub const UNWRITTEN: u8 = 3;
+
+// An input that was read: how many bytes its name has and it has; and what it comes to where it was not read, 0 where it was.
+pub struct Input {
+    pub name: usize,
+    pub length: usize,
+    pub status: u8,
+}
 
 // The worse of two.
-fn worse(a: u8, b: u8) -> u8
+pub fn worse(a: u8, b: u8) -> u8
     ensures { λ r. ⌜ r ≡ max a b ⌝ }
 {
     if a < b { b } else { a }
@@ -33,7 +43,7 @@ fn digit_of(status: u8) -> u8
 }
 
 // A line on standard error, of an input that has no report: what it is, and why.
-fn complain(what: &[u8], why: &[u8]) -> u8
+pub fn complain(what: &[u8], why: &[u8]) -> u8
     ensures { λ r. ⌜ 2 ≤ r ⌝ }
 {
     if !io::write_all(libc::STDERR_FILENO, what) {
@@ -86,11 +96,10 @@ fn refuse_name(name: &[u8]) -> u8
     complain(b"", b": its name has a line feed\n")
 }
 
-// Checks an input that was read whole, and writes what goes out for it in one piece.
-fn check_bytes(f: &[u8], what: &[u8], name: &[u8]) -> u8
-    ensures { λ r. ⌜ Comes (now (f .entry)) r ⌝ }
+// Writes what goes out for an input with this verdict, in one piece; `what` is said on standard error, `name` on standard output.
+pub fn write_report(verdict: Verdict, what: &[u8], name: &[u8]) -> u8
+    ensures { λ r. ⌜ Tells (verdict-outcome verdict) r ⌝ }
 {
-    let verdict = file_report::input_verdict(f);
     let mut out = [0u8; OUT];
     match named_report::output_into(name, verdict, &mut out) {
         ReportAnswer::Got(k) => {
@@ -104,57 +113,109 @@ fn check_bytes(f: &[u8], what: &[u8], name: &[u8]) -> u8
     }
 }
 
-// Checks an input, of which `what` is said on standard error and `name` on standard output. Where its bytes run out one more read tells whether it ends there, so
-// that an input whose reading failed, or that grew, is not taken for a short one.
-fn check_input(fd: i32, what: &[u8], name: &[u8]) -> u8 {
-    let mut buf = [0u8; ROOM];
-    let n = io::read_full(fd, &mut buf);
-    if n < ROOM {
+// Checks an input that was read whole.
+fn check_bytes(f: &[u8], what: &[u8], name: &[u8]) -> u8
+    ensures { λ r. ⌜ Comes (now (f .entry)) r ⌝ }
+{
+    write_report(file_report::input_verdict(f), what, name)
+}
+
+// An input that was not read, and what it comes to.
+fn unread(status: u8) -> Input
+    ensures { λ r. ⌜ Within (r .name) (r .length) 0 0 ⌝ }
+{
+    Input {
+        name: 0,
+        length: 0,
+        status,
+    }
+}
+
+// An input, of which `what` is said on standard error, read whole into a lent room. Where its bytes run out one more read tells whether it ends there, so that an
+// input whose reading failed, or that grew, is not taken for a short one.
+fn read_whole(fd: i32, what: &[u8], room: &mut [u8]) -> Input
+    ensures { λ r. ⌜ Within (r .name) (r .length) 0 (length (now (room .entry))) ⌝ }
+{
+    let n = io::read_full(fd, room);
+    if n < room.len() {
         let mut more = [0u8; 1];
         let got = libc::read(fd, &mut more);
         if got < 0 {
-            return fail(what);
+            return unread(fail(what));
         }
         if 0 < got {
-            return complain(what, b": it grew while it was read\n");
+            return unread(complain(what, b": it grew while it was read\n"));
         }
     }
-    check_bytes(&buf[..n], what, name)
+    Input {
+        name: 0,
+        length: n,
+        status: 0,
+    }
 }
 
-// Checks the file of a name.
-fn check_file(name: &[u8]) -> u8 {
+// Standard input.
+pub fn read_standard(room: &mut [u8]) -> Input
+    ensures { λ r. ⌜ Within (r .name) (r .length) 0 (length (now (room .entry))) ⌝ }
+{
+    read_whole(libc::STDIN_FILENO, b"standard input", room)
+}
+
+// The file of a name.
+fn read_file(name: &[u8], room: &mut [u8]) -> Input
+    ensures { λ r. ⌜ Within (r .name) (r .length) 0 (length (now (room .entry))) ⌝ }
+{
     if !named_report::is_one_line(name) {
-        return refuse_name(name);
+        return unread(refuse_name(name));
     }
     let fd = os::open_read(name);
     if fd < 0 {
-        return fail(name);
+        return unread(fail(name));
     }
-    let status = check_input(fd, name, name);
+    let input = read_whole(fd, name, room);
     libc::close(fd);
-    status
+    input
+}
+
+// The file that argument i names, and its name, into lent rooms.
+pub fn read_argument(i: usize, path: &mut [u8], room: &mut [u8]) -> Input
+    ensures { λ r. ⌜ Within (r .name) (r .length) (length (now (path .entry))) (length (now (room .entry))) ⌝ }
+{
+    let n = os::arg(i, path);
+    if os::errno() != 0 {
+        return unread(fail(b"an argument"));
+    }
+    if n == 0 {
+        return unread(complain(b"an argument", b": an empty name\n"));
+    }
+    let input = read_file(&path[..n], room);
+    Input {
+        name: n,
+        length: input.length,
+        status: input.status,
+    }
 }
 
 // Checks the file that argument i names.
-fn check_argument(i: usize) -> u8 {
-    let mut path = io::buffer();
-    let n = os::arg(i, &mut path);
-    if os::errno() != 0 {
-        return fail(b"an argument");
+fn check_argument(i: usize, path: &mut [u8], room: &mut [u8]) -> u8 {
+    let input = read_argument(i, path, room);
+    let k = input.name;
+    let n = input.length;
+    if 0 < input.status {
+        return input.status;
     }
-    if n == 0 {
-        return complain(b"an argument", b": an empty name\n");
-    }
-    check_file(&path[..n])
+    let name = &path[..k];
+    check_bytes(&room[..n], name, name)
 }
 
 // Checks the files that the arguments from i on name, up to a write that fails: the worst that they come to.
 fn check_arguments(first: usize, count: usize) -> u8 {
+    let mut path = io::buffer();
+    let mut room = [0u8; ROOM];
     let mut worst: u8 = 0;
     let mut i = first;
     while i < count {
-        worst = worse(worst, check_argument(i));
+        worst = worse(worst, check_argument(i, &mut path, &mut room));
         if worst == UNWRITTEN {
             return worst;
         }
@@ -163,8 +224,19 @@ fn check_arguments(first: usize, count: usize) -> u8 {
     worst
 }
 
+// Checks standard input.
+fn check_standard() -> u8 {
+    let mut room = [0u8; ROOM];
+    let input = read_standard(&mut room);
+    let n = input.length;
+    if 0 < input.status {
+        return input.status;
+    }
+    check_bytes(&room[..n], b"standard input", b"")
+}
+
 // Has all that was written arrived? Some file systems say so at the close alone.
-fn close_output(status: u8) -> u8
+pub fn close_output(status: u8) -> u8
     ensures { λ r. ⌜ status ≤ r ⌝ }
 {
     if status == UNWRITTEN {
@@ -178,7 +250,7 @@ fn close_output(status: u8) -> u8
 }
 
 // Is the exit status asked for? An empty first argument does so: it names no file.
-fn is_asked() -> bool {
+pub fn is_asked() -> bool {
     let mut word = [0u8; 1];
     let n = os::arg(1, &mut word);
     if os::errno() != 0 {
@@ -188,7 +260,7 @@ fn is_asked() -> bool {
 }
 
 // Writes the exit status to its descriptor.
-fn tell(status: u8) {
+pub fn tell(status: u8) {
     if !io::write_all(STATUS_FILENO, &[digit_of(status)]) {
         os::fail(b"exit status");
     }
@@ -198,7 +270,7 @@ fn tell(status: u8) {
 fn check_from(first: usize) -> u8 {
     let count = os::arg_count();
     if count <= first {
-        return check_input(libc::STDIN_FILENO, b"standard input", b"");
+        return check_standard();
     }
     check_arguments(first, count)
 }

@@ -22,7 +22,7 @@ use Rattle.report.specs.declared.ReportAnswer as R
 use Rattle.report.specs.Answers.{report-outcome}
 use Rattle.report.specs.Lines.{told, reportOf}
 use Rattle.report.specs.Stored.{placed, Stored, written, content}
-use Rattle.report.proofs.Laws.{stored-then, short-answer, short-content}
+use Rattle.report.proofs.Laws.{stored-then, stored-long, short-answer, short-content, got-length, refused-length, written-fits, content-fits}
 use Rattle.named_report.specs.Output.{one-line, heading, outputOf}
 
 -- ---- the loop of `is_one_line`: the bytes before i are no line feeds
@@ -61,10 +61,6 @@ module _ (out : List ℕ) (at : ℕ) where
       let after = drop-of-length-le (drop at out) {i = length out - at} (let z = length-drop at out in omega arith) in
       ap (λ (l : List ℕ). take at out ++ (last ++ l)) after ∙ ap (λ (l : List ℕ). take at out ++ l) (append-nil last)
 
-content-fits : (text out : List ℕ) → length text ≤ length out → content text out ≡ text ++ drop (length text) out
-unfolding content
-content-fits text out h = rw (le-leb (length text) (length out) h)
-
 module _ (text out last : List ℕ) (at : ℕ) (e : last ≡ content text (take (length out - at) (drop at out))) where
   last-is : last ≡ content text (drop at out)
   last-is = e ∙ ap (λ (l : List ℕ). content text l) (rest-whole out at)
@@ -85,10 +81,6 @@ module _ (text out last : List ℕ) (at : ℕ) (e : last ≡ content text (take 
   rest-stored h = record { room = h; content = rest-placed h; ends = refl }
 
 pub ruleset put-laws = (rest-stored, needs)
-
-stored-long : {text : List ℕ} {at next : ℕ} {before after : List ℕ} → Stored text at before after next → length after ≡ length before
-unfolding placed
-stored-long {text} {at} {next} {before} s = ap length (s .content) ∙ (let z = s .room in simp (length-append, length-take, length-drop) (omega arith))
 
 -- ---- the line of a name
 pub heading-long : (name : List ℕ) → 0 < length name → length name + 6 ≡ length (heading name)
@@ -133,27 +125,6 @@ heading-nothing (b ∷ bs) out h = absurd (omega arith)
 pub ruleset heading-laws = (heading-long, heading-none, sign-room, name-room, feed-room, heading-stored, heading-nothing, needs)
 
 -- ---- the writer's ways
--- a report that was written has this length and fits; one that was not is longer than the room
-got-length : (text : List ℕ) (room k : ℕ) → answer k ≡ written text room → (k ≡ length text) × (length text ≤ room)
-unfolding written given
-got-length text room k e = by-length (leb (length text) room) refl e
-  where
-    by-length : (b : Bool) → leb (length text) room ≡ b → answer k ≡ given b no-room (answer (length text)) → (k ≡ length text) × (length text ≤ room)
-    by-length true t q = (cc q, leb-true (length text) room t)
-    by-length false t q = let z : _≡_ {A = ℕ} 0 1 = cc q in absurd (omega arith)
-
-refused-length : (text : List ℕ) (room : ℕ) (r : Refusal) → refused r ≡ written text room → room < length text
-unfolding written given
-refused-length text room r e = by-length (leb (length text) room) refl e
-  where
-    by-length : (b : Bool) → leb (length text) room ≡ b → refused r ≡ given b no-room (answer (length text)) → room < length text
-    by-length true t q = let z : _≡_ {A = ℕ} 0 1 = cc q in absurd (omega arith)
-    by-length false t q = leb-false (length text) room t
-
-written-fits : (text : List ℕ) (room : ℕ) → length text ≤ room → answer (length text) ≡ written text room
-unfolding written given
-written-fits text room h = rw (le-leb (length text) room h)
-
 module _ (name out : List ℕ) (o : Outcome Header) (at : ℕ) (long : at ≡ length (heading name)) where
   output-long : length (outputOf name o) ≡ at + length (reportOf o)
   unfolding outputOf

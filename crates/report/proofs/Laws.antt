@@ -8,7 +8,7 @@ use lib.ListN.{length, take, drop, set, getD, length-append, length-take, length
 use lib.Seq.{take-suc, take-all, take-at, drop-at, drop-drop, set-split}
 use borrow.Author.Needs.{needs}
 use lib.Dec.{leb}
-use borrow.Author.Tests.{le-leb, lt-leb, leb-true}
+use borrow.Author.Tests.{le-leb, lt-leb, leb-true, leb-false}
 use native.Mathlib.Numerals.{add-one}
 use native.Mathlib.Omega.{arith}
 use mir.Syntax.{w64}
@@ -48,7 +48,7 @@ placed-twice a b p out h =
     ∙ ap (λ (l : List ℕ). (take p out ++ a) ++ (b ++ l)) (sym (drop-drop (length b) (p + length a) ((take p out ++ a) ++ drop (p + length a) out)) ∙ ap (λ (l : List ℕ). drop (length b) l) (drop-at (take p out ++ a) (drop (p + length a) out) (p + length a) long) ∙ drop-drop (length b) (p + length a) out)
     ∙ simp (append-assoc, length-append) (ap (λ (n : ℕ). take p out ++ (a ++ (b ++ drop n out))) same)
 
-stored-long : {a : List ℕ} {p q : ℕ} {before after : List ℕ} → Stored a p before after q → length after ≡ length before
+pub stored-long : {a : List ℕ} {p q : ℕ} {before after : List ℕ} → Stored a p before after q → length after ≡ length before
 stored-long {a} {p} {q} {before} s = ap length (s .content) ∙ length-placed a p before (s .room)
 
 pub stored-then : {a b : List ℕ} {p q r : ℕ} {o₀ o₁ o₂ : List ℕ} → Stored a p o₀ o₁ q → Stored b q o₁ o₂ r → Stored (a ++ b) p o₀ o₂ r
@@ -287,6 +287,22 @@ module _ {text out after : List ℕ} {n : ℕ} (s : Stored text 0 out after n) w
       let long : length text ≡ n - 0 = let z = s .ends in omega arith in
       ap (λ (l : List ℕ). take (n - 0) l) (s .content ∙ at-front) ∙ take-at text (drop (length text) out) (n - 0) long
 
+-- digits that were made in a room of their own, and handed out
+pub digits-fit : (n : ℕ) (room : List ℕ) → Fits w64 n → 20 ≤ length room → 0 + length (decimal n) ≤ length room
+digits-fit n room f h = let z = digits-of-64 n (f .fits) in omega arith
+
+module _ {text room made : List ℕ} {n : ℕ} (s : Stored text 0 room made n) where
+  pub made-end : n ≤ length made
+  made-end = let z = s .ends in let y = s .room in let x = stored-long s in omega arith
+
+  pub made-answer : {said : Outcome ℕ} (k : ℕ) → said ≡ written (take (n - 0) (drop 0 made)) k → said ≡ written text k
+  made-answer k e = e ∙ ap (λ (t : List ℕ). written t k) (stored-cut s)
+
+  pub made-content : {after : List ℕ} (out : List ℕ) → after ≡ content (take (n - 0) (drop 0 made)) out → after ≡ content text out
+  made-content out e = e ∙ ap (λ (t : List ℕ). content t out) (stored-cut s)
+
+pub ruleset number-laws = (digits-fit, made-end, made-answer, made-content, needs)
+
 -- a report that was made in a room of its own, and handed out
 module _ {ls : List Line} {room made : List ℕ} {n : ℕ} (s : Rows ls 0 room made n) where
   pub report-answer : {said : Outcome ℕ} (k : ℕ) → said ≡ written (take (n - 0) (drop 0 made)) k → said ≡ written (lines ls) k
@@ -320,13 +336,32 @@ module _ (v : Verdict) (after out : List ℕ) where
 
 pub ruleset verdict-laws = (got-answer, refused-answer, got-content, refused-content, needs)
 
--- a report that was written fits the output
-pub got-within : (text : List ℕ) (k n : ℕ) → answer n ≡ written text k → n ≤ k
+-- a text that was written has this length and fits the output; one that was not is longer than the room
+pub got-length : (text : List ℕ) (room k : ℕ) → answer k ≡ written text room → (k ≡ length text) × (length text ≤ room)
 unfolding written given
-got-within text k n e = by-length (leb (length text) k) refl e
+got-length text room k e = by-length (leb (length text) room) refl e
   where
-    by-length : (b : Bool) → leb (length text) k ≡ b → answer n ≡ given b no-room (answer (length text)) → n ≤ k
-    by-length true t q = let z = leb-true (length text) k t in let y : n ≡ length text = cc q in omega arith
+    by-length : (b : Bool) → leb (length text) room ≡ b → answer k ≡ given b no-room (answer (length text)) → (k ≡ length text) × (length text ≤ room)
+    by-length true t q = (cc q, leb-true (length text) room t)
     by-length false t q = let z : _≡_ {A = ℕ} 0 1 = cc q in absurd (omega arith)
+
+pub refused-length : (text : List ℕ) (room : ℕ) (r : Refusal) → refused r ≡ written text room → room < length text
+unfolding written given
+refused-length text room r e = by-length (leb (length text) room) refl e
+  where
+    by-length : (b : Bool) → leb (length text) room ≡ b → refused r ≡ given b no-room (answer (length text)) → room < length text
+    by-length true t q = let z : _≡_ {A = ℕ} 0 1 = cc q in absurd (omega arith)
+    by-length false t q = leb-false (length text) room t
+
+pub got-within : (text : List ℕ) (k n : ℕ) → answer n ≡ written text k → n ≤ k
+got-within text k n e = let z = got-length text k n e in omega (arith, z .0, z .1)
+
+pub written-fits : (text : List ℕ) (room : ℕ) → length text ≤ room → answer (length text) ≡ written text room
+unfolding written given
+written-fits text room h = rw (le-leb (length text) room h)
+
+pub content-fits : (text out : List ℕ) → length text ≤ length out → content text out ≡ text ++ drop (length text) out
+unfolding content
+content-fits text out h = rw (le-leb (length text) (length out) h)
 
 pub ruleset byte-laws = (stored-byte, needs)

@@ -193,6 +193,16 @@ pub fn text_into(text: &[u8], out: &mut [u8]) -> ReportAnswer
     ReportAnswer::Got(text.len())
 }
 
+// A number's digits to a lent output: how many, or 19, writing nothing, where the output is shorter.
+pub fn number_into(n: u64, out: &mut [u8]) -> ReportAnswer
+    ensures answer { λ r. ⌜ report-outcome r ≡ written (decimal n) (length (now (out .entry))) ⌝ }
+    ensures wrote { λ r. ⌜ now (out .exit) ≡ content (decimal n) (now (out .entry)) ⌝ }
+{
+    let mut room = [0u8; 20];
+    let k = put_digits(n, &mut room, 0);
+    text_into(&room[0..k], out)
+}
+
 // The report of an accepted file: how many bytes, or 19, writing nothing, where the output is shorter.
 fn accepted_into(header: Header, out: &mut [u8]) -> ReportAnswer
     ensures answer { λ r. ⌜ report-outcome r ≡ written (lines (accepted-lines header)) (length (now (out .entry))) ⌝ }

@@ -1,20 +1,32 @@
-use borrow.Author.Needs.{needs as laws}
 use Prim.Native.Nat.{_-_}
+use lib.ListN.{length}
+use mathlib.Core.Path.{_≡_}
+use Rattle.checking.proofs.Laws.{laws}
 use Rattle.checking.proofs.check_arguments.Statement.{statement}
 use Rattle.checking.proofs.check_arguments.Tie as tie
 use Rattle.checking.proofs.check_arguments.Reads as reads
 use Rattle.checking.proofs.check_arguments.Lts as lts
 use Rattle.checking.proofs.check_argument.Reads as check-argument-reads
 use Rattle.checking.proofs.worse.Reads as worse-reads
+use Rattle.io.proofs.buffer.Reads as buffer-reads
 
 abbrev Inv-loop : tie.InvT-loop
-Inv-loop first count worst₀ i₀ worst i = Unit {0}
+Inv-loop first count path₀ room₀ worst₀ i₀ path room worst i = (4096 ≡ length path) × (65537 ≡ length room)
 
 abbrev μ-loop : tie.MeasureT-loop
-μ-loop first count worst₀ i₀ worst i = count - i
+μ-loop first count path₀ room₀ worst₀ i₀ path room worst i = count - i
+
+buffer-requires : tie.Need-buffer-requires Inv-loop μ-loop
+buffer-requires c κs = search laws
 
 loop-holds : tie.Need-loop-holds Inv-loop μ-loop
 loop-holds c = search laws
+
+slice-aggregate-check-argument : tie.Need-slice-aggregate-check-argument Inv-loop μ-loop
+slice-aggregate-check-argument c = search laws
+
+slice-aggregate-check-argument-2 : tie.Need-slice-aggregate-check-argument-2 Inv-loop μ-loop
+slice-aggregate-check-argument-2 c = search laws
 
 check-argument-requires : tie.Need-check-argument-requires Inv-loop μ-loop
 check-argument-requires c κs = search laws
@@ -43,7 +55,10 @@ check-arguments-spec =
     (tie.spec
     Inv-loop
     μ-loop
+    buffer-requires
     loop-holds
+    slice-aggregate-check-argument
+    slice-aggregate-check-argument-2
     check-argument-requires
     worse-requires
     returns

@@ -1,0 +1,4 @@
+// The register of standard input, or of each file that is named.
+fn main() {
+    registering::run();
+}

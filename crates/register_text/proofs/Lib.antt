@@ -1,0 +1,4 @@
+pub mod Laws
+pub mod NumberLaws
+pub mod WholeLaws
+pub mod OneToOne

@@ -1,0 +1,4 @@
+pub mod Escapes
+pub mod Numbers
+pub mod Wholes
+pub mod Answers
