@@ -163,8 +163,8 @@ def kinds():
 
 
 def refusals():
-    """Each number that the code refuses with has a name, and there are no others."""
-    code = {int(number) for number in re.findall(r'\bnumber: (\d+)\b', text('crates/*/src/*.rt'))}
+    """Each number that the code refuses with, all of which are made in one crate, has a name, and there are no others."""
+    code = {int(number) for number in re.findall(r'\bnumber: (\d+)\b', text('crates/refusal/src/*.rt'))}
     return differences('refusal', {n: True for n in enums['refusal'].values()}, {n: True for n in code}) + [
         f'{name} has a number that another has' for name, n in enums['refusal'].items() if list(enums['refusal'].values()).count(n) > 1]
 

@@ -55,9 +55,9 @@ extern "C" {
  * MAJOR is 0, MINOR rises where a program written for the version before may have to change (a function, a word's position, what is refused and with which
  * number), PATCH where none has to.
  */
-#define DRALOVIKA_VERSION "0.7.0"
+#define DRALOVIKA_VERSION "0.8.0"
 #define DRALOVIKA_VERSION_MAJOR 0
-#define DRALOVIKA_VERSION_MINOR 7
+#define DRALOVIKA_VERSION_MINOR 8
 #define DRALOVIKA_VERSION_PATCH 0
 
 /* How many words an answer has. */
