@@ -1,4 +1,6 @@
 // The flag writer: the numbers of the bits that are set, one byte each, into a lent output.
+#![tactic(auto)]
+
 ghost use Rattle.std.specs.Prelude.{◌≡◌, ◌≤◌, length};
 ghost use Rattle.access_flags.specs.Flags.{kept, flags, filled, written, content};
 ghost use Rattle.access_flags.specs.Answers.{flags_outcome};
@@ -8,7 +10,7 @@ use refusal::Refusal;
 // Bit numbers 0 to 17: `flag_bits` in the definitions.
 const FLAG_BITS: u32 = 18;
 
-#[derive(Drop)]
+#[derive(Clone, Copy)]
 pub enum FlagsAnswer {
     Got(usize),
     Refused(Refusal),

@@ -1,5 +1,7 @@
 // The annotation directory. One piece serves its three lists of entries.
 // `s` is the file up to the data section's end, so that what runs past its length is 9; all faults of an item are at its own place.
+#![tactic(auto)]
+
 ghost use Rattle.std.specs.Prelude.{◌≡◌, ◌+◌, ◌*◌, ◌≤◌, length};
 ghost use Rattle.encoded_value.specs.Answers.{step_outcome};
 ghost use Rattle.annotation_directories.specs.Directories.{counts_at, head_at, entry_at, entries_pass, list_past, lists_pass, directory_head, directory_entry};
@@ -13,14 +15,14 @@ use frame::Frame;
 use refusal::{CheckAnswer, Refusal};
 
 // A field or method, and where its set or reference list is.
-#[derive(Drop)]
+#[derive(Clone, Copy)]
 pub enum DirectoryEntryAnswer {
     Got { index: u32, offset: u32 },
     Refused(Refusal),
 }
 
 // A directory's head: where the class annotations are (0 for none), and how many fields, methods and parameter entries follow.
-#[derive(Drop)]
+#[derive(Clone, Copy)]
 pub struct DirectoryHead {
     pub set: u32,
     pub fields: u32,
@@ -28,7 +30,7 @@ pub struct DirectoryHead {
     pub parameters: u32,
 }
 
-#[derive(Drop)]
+#[derive(Clone, Copy)]
 pub enum DirectoryHeadAnswer {
     Got(DirectoryHead),
     Refused(Refusal),

@@ -1,5 +1,7 @@
 // The annotation item: a visibility, then an annotation body at depth 1.
 // `s` is the file up to the data section's end, so that what runs past its length is 9; all faults of an item are at its own place.
+#![tactic(auto)]
+
 ghost use Rattle.std.specs.Prelude.{◌≡◌};
 ghost use Rattle.value_bodies.specs.Answers.{element_outcome};
 ghost use Rattle.annotation_items.specs.Items.{visibility_at, item_visibility, item_summary, item_element};
@@ -10,14 +12,14 @@ use frame::Frame;
 use refusal::Refusal;
 use value_bodies::ElementAnswer;
 
-#[derive(Drop)]
+#[derive(Clone, Copy)]
 pub enum VisibilityAnswer {
     Got(u8),
     Refused(Refusal),
 }
 
 // An annotation's visibility, its type, and how many elements it has.
-#[derive(Drop)]
+#[derive(Clone, Copy)]
 pub enum SummaryAnswer {
     Got {
         visibility: u8,

@@ -1,5 +1,7 @@
 // Annotation sets and reference lists: a size, then offsets. One piece serves both: is 0 an absent item, must the others be multiples of 4.
 // `s` is the file up to the data section's end, so that what runs past its length is 9; all faults of an item are at its own place.
+#![tactic(auto)]
+
 ghost use Rattle.std.specs.Prelude.{◌≡◌, true, false, ◌+◌, ◌*◌, ◌≤◌, length};
 ghost use Rattle.annotation_lists.specs.Offsets.{offset_allowed, word_at, offset_at, offsets_pass, offset_count, offset_number};
 ghost use Rattle.refusal.specs.Answers.{checked_outcome};
@@ -9,7 +11,7 @@ use frame::Frame;
 use refusal::{CheckAnswer, Refusal};
 
 // A count or an offset.
-#[derive(Drop)]
+#[derive(Clone, Copy)]
 pub enum WordAnswer {
     Got(u32),
     Refused(Refusal),

@@ -1,5 +1,7 @@
 // Going over annotation sets, reference lists and directories with all that lies below them: own rules first, then the items pointed at, in
 // stored order. Shared items are gone over each time they are reached.
+#![tactic(auto)]
+
 ghost use Rattle.std.specs.Prelude.{◌≡◌, true, false, ◌+◌, ◌*◌, ◌≤◌, length};
 ghost use Rattle.refusal.specs.Answers.{checked_outcome};
 ghost use Rattle.annotation_walk.specs.Below.{set_accepted, references_accepted, directory_accepted};

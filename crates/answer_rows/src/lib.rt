@@ -1,4 +1,6 @@
 // Answers as rows of twenty words, the form in which a C program takes them: specs/Words says which words each answer is.
+#![tactic(auto)]
+
 mod heads;
 mod members;
 mod notes;

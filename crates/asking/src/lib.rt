@@ -1,5 +1,7 @@
 // What the programs that ask the readers share: questions are read from standard input, one after the other, and a line is written for each answer.
 // vectors/questions.py says the form of both. What is read and written no contract can say.
+#![tactic(auto)]
+
 mod lines;
 mod questions;
 mod turns;
@@ -10,7 +12,7 @@ pub use turns::{asked_of, bytes_of, first, next};
 
 // A question: its reader, the words of the answer that are written, its five numbers, how many bytes it has up to their end, and how many come
 // behind them.
-#[derive(Drop)]
+#[derive(Clone, Copy)]
 pub struct Question {
     pub reader: u8,
     pub mask: u32,
@@ -25,7 +27,7 @@ pub struct Question {
 
 // Whose turn it is: how many cases are still to be read; of this one, where the bytes begin that are asked about and how many they are, where the
 // question begins, and where the last one ends.
-#[derive(Drop)]
+#[derive(Clone, Copy)]
 pub struct Turn {
     pub left: u32,
     pub start: u32,

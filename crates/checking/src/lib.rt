@@ -1,4 +1,6 @@
 // What the programs do: read an input whole, have it checked, write its report, and tell what it all came to. The parts that are public serve `registering` too. What is read and written no contract can say.
+#![tactic(auto)]
+
 ghost use Rattle.std.specs.Prelude.{◌≡◌, ◌≤◌, max, length};
 ghost use Rattle.verdict.specs.Answers.{verdict_outcome};
 ghost use Rattle.checking.specs.Status.{digit, Tells, Comes, Within};
@@ -21,7 +23,7 @@ const UNREAD: u8 = 2;
 pub const UNWRITTEN: u8 = 3;
 
 // An input that was read: how many bytes its name has and it has; and what it comes to where it was not read, 0 where it was.
-#[derive(Drop)]
+#[derive(Clone, Copy)]
 pub struct Input {
     pub name: usize,
     pub length: usize,

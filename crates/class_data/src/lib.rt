@@ -1,5 +1,7 @@
 // Class data: four counts, then static fields, instance fields, direct methods and virtual methods.
 // `s` ends where the data section ends, `item` is the place of the class data.
+#![tactic(auto)]
+
 ghost use Rattle.std.specs.Prelude.{◌≡◌};
 ghost use Rattle.class_data.specs.Data.{two_numbers_at, counts_at, kept_two, kept_data_at, methods_from, extent_at, methods_at, member_of_list, count_in, member_in};
 ghost use Rattle.class_data.specs.Answers.{two_numbers_outcome, counts_outcome, two_outcome, kept_data_outcome, data_outcome, member_outcome, methods_outcome};
@@ -9,7 +11,7 @@ use frame::Frame;
 use leb128::LebAnswer;
 use refusal::Refusal;
 
-#[derive(Drop)]
+#[derive(Clone, Copy)]
 pub struct Counts {
     pub statics: u32,
     pub instances: u32,
@@ -18,7 +20,7 @@ pub struct Counts {
 }
 
 // One member of each list.
-#[derive(Drop)]
+#[derive(Clone, Copy)]
 pub struct KeptMembers {
     pub statics: Member,
     pub instances: Member,
@@ -26,7 +28,7 @@ pub struct KeptMembers {
     pub virtuals: Member,
 }
 
-#[derive(Drop)]
+#[derive(Clone, Copy)]
 pub enum TwoNumbersAnswer {
     Got {
         first: u32,
@@ -36,14 +38,14 @@ pub enum TwoNumbersAnswer {
     Refused(Refusal),
 }
 
-#[derive(Drop)]
+#[derive(Clone, Copy)]
 pub enum CountsAnswer {
     Got { counts: Counts, next: usize },
     Refused(Refusal),
 }
 
 // One member of each of two lists, and the place after them.
-#[derive(Drop)]
+#[derive(Clone, Copy)]
 pub enum TwoMembersAnswer {
     Got {
         first: Member,
@@ -53,7 +55,7 @@ pub enum TwoMembersAnswer {
     Refused(Refusal),
 }
 
-#[derive(Drop)]
+#[derive(Clone, Copy)]
 pub enum KeptDataAnswer {
     Got {
         counts: Counts,
@@ -65,27 +67,27 @@ pub enum KeptDataAnswer {
 }
 
 // The four counts, and the place after the item.
-#[derive(Drop)]
+#[derive(Clone, Copy)]
 pub enum DataAnswer {
     Got { counts: Counts, end: usize },
     Refused(Refusal),
 }
 
 // How many direct and virtual methods there are, and where they begin.
-#[derive(Drop)]
+#[derive(Clone, Copy)]
 pub struct Methods {
     pub directs: u32,
     pub virtuals: u32,
     pub from: usize,
 }
 
-#[derive(Drop)]
+#[derive(Clone, Copy)]
 pub enum MethodsAnswer {
     Got(Methods),
     Refused(Refusal),
 }
 
-#[derive(Drop)]
+#[derive(Clone, Copy)]
 pub enum MemberAnswer {
     Got(Member),
     Refused(Refusal),

@@ -1,4 +1,6 @@
 // The records of classes.
+#![tactic(auto)]
+
 ghost use Rattle.std.specs.Prelude.{◌≡◌};
 ghost use Rattle.class_ids.specs.Classes.{index_or_none, maybe_of, words_at, first_of, middle_of, places_of, class_of, class_at};
 ghost use Rattle.class_ids.specs.Answers.{class_outcome};
@@ -8,14 +10,14 @@ use refusal::Refusal;
 use word::Endian;
 
 // An index, or none: 0xFFFFFFFF means none.
-#[derive(Drop)]
+#[derive(Clone, Copy)]
 pub enum Maybe {
     Number(u32),
     Absent,
 }
 
 // A class: an offset of 0 means absent.
-#[derive(Drop)]
+#[derive(Clone, Copy)]
 pub struct Class {
     pub class: u32,
     pub flags: u32,
@@ -27,14 +29,14 @@ pub struct Class {
     pub values: u32,
 }
 
-#[derive(Drop)]
+#[derive(Clone, Copy)]
 pub enum ClassAnswer {
     Got(Class),
     Refused(Refusal),
 }
 
 // The eight words of a record.
-#[derive(Drop)]
+#[derive(Clone, Copy)]
 pub struct ClassWords {
     pub class: u32,
     pub flags: u32,

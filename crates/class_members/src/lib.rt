@@ -1,5 +1,7 @@
 // The members of one list of class data: fields or methods, each with the difference to the one before.
 // `s` ends where the data section ends, `item` is the place of the class data.
+#![tactic(auto)]
+
 ghost use Rattle.std.specs.Prelude.{◌≡◌, cond};
 ghost use Rattle.leb128.specs.Answers.{leb_outcome};
 ghost use Rattle.class_members.specs.Members.{apart, offset_at, code_at, rest_at, member_at, kept_members};
@@ -9,7 +11,7 @@ use leb128::LebAnswer;
 use refusal::Refusal;
 
 // A field or method: its number, its access flags, and the offset of its code, 0 for a field.
-#[derive(Drop)]
+#[derive(Clone, Copy)]
 pub struct Member {
     pub index: u32,
     pub flags: u32,
@@ -17,7 +19,7 @@ pub struct Member {
 }
 
 // What the members of a list are judged by: how many there are to name, and whether a code offset follows.
-#[derive(Drop)]
+#[derive(Clone, Copy)]
 pub struct MemberJudge {
     pub limit: u32,
     pub code: bool,
@@ -25,7 +27,7 @@ pub struct MemberJudge {
 }
 
 // A member and the place after it.
-#[derive(Drop)]
+#[derive(Clone, Copy)]
 pub enum MemberFoundAnswer {
     Got { member: Member, next: usize },
     Refused(Refusal),

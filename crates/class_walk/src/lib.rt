@@ -1,5 +1,7 @@
 // Going over a class with all that lies below it: own rules first, then the items pointed at, in stored order. Shared items are gone over
 // each time they are reached.
+#![tactic(auto)]
+
 ghost use Rattle.std.specs.Prelude.{◌≡◌};
 ghost use Rattle.refusal.specs.Answers.{checked_outcome};
 ghost use Rattle.class_walk.specs.Methods.{debug_accepted, body_accepted, method_accepted, methods_pass, both_pass, data_accepted};
@@ -18,7 +20,7 @@ use leb128::LebAnswer;
 use refusal::{CheckAnswer, Refusal};
 
 // The place after a list of methods.
-#[derive(Drop)]
+#[derive(Clone, Copy)]
 pub enum PassedAnswer {
     To(usize),
     Refused(Refusal),

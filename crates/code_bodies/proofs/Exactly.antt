@@ -158,6 +158,7 @@ module _ (o : Endian) (s : List ℕ) (handlers : List Handler) where
       let e = h.place in
       let z : t + 8 * k + 6 ≡ p + 8 * suc k + 6 = omega arith in
       subst (λ (x : ℕ). position (is_start (u16_at o s x)) handlers ≡ some m) z (links_read r a)
+  links_read {k = k} {m = m} (empty {from = from}) x6 = elim x6 [ ]
 
   links_row : (l : List ℕ) (p : ℕ) → ((k m : ℕ) → At l k m → LinkedBy p k m) → (q : ℕ) × Row (LinkStep o s handlers) (length l) p l q
   links_row [] p h = (p, empty)

@@ -1,5 +1,7 @@
 // A code item whole: its units, tries, handler list and links, of which one try, one handler and one pair are kept.
 // `s` ends where the data section ends, `item` is the place of the code item.
+#![tactic(auto)]
+
 ghost use Rattle.std.specs.Prelude.{◌≡◌, cond, ◌+◌, ◌*◌, ◌≤◌, length};
 ghost use Rattle.code_bodies.specs.Tries.{try_at, try_allowed, kept_try, kept_link};
 ghost use Rattle.code_bodies.specs.Code.{linked_stage, listed_stage, parts_stage, body_stage, kept_code_at};
@@ -12,27 +14,27 @@ use refusal::Refusal;
 use word::Endian;
 
 // A try: its first unit, how many units, and its handler's offset from the handler list's first byte.
-#[derive(Drop)]
+#[derive(Clone, Copy)]
 pub struct Try {
     pub start: u32,
     pub count: u16,
     pub handler: u16,
 }
 
-#[derive(Drop)]
+#[derive(Clone, Copy)]
 pub enum TryFoundAnswer {
     Got(Try),
     Refused(Refusal),
 }
 
-#[derive(Drop)]
+#[derive(Clone, Copy)]
 pub enum LinkAnswer {
     Got(u32),
     Refused(Refusal),
 }
 
 // The whole, with one try and its handler's number, and one handler.
-#[derive(Drop)]
+#[derive(Clone, Copy)]
 pub enum KeptCodeAnswer {
     Got {
         head: CodeHead,

@@ -1,5 +1,7 @@
 // The head of a code item, and how far its tries are from it.
 // `s` ends where the data section ends, `item` is the place of the code item.
+#![tactic(auto)]
+
 ghost use Rattle.std.specs.Prelude.{◌≡◌};
 ghost use Rattle.code_heads.specs.Heads.{code_head_at, padding, body_size};
 ghost use Rattle.code_heads.specs.Answers.{code_head_outcome};
@@ -8,7 +10,7 @@ use frame::Frame;
 use refusal::Refusal;
 
 // The head of a code item, in stored order.
-#[derive(Drop)]
+#[derive(Clone, Copy)]
 pub struct CodeHead {
     pub registers: u16,
     pub ins: u16,
@@ -18,7 +20,7 @@ pub struct CodeHead {
     pub units: u32,
 }
 
-#[derive(Drop)]
+#[derive(Clone, Copy)]
 pub enum CodeHeadAnswer {
     Got(CodeHead),
     Refused(Refusal),

@@ -1,5 +1,7 @@
 // Code items, their tries, handlers and pairs by number, and the try that covers an address.
 // `s` ends where the data section ends, `item` is the place of the code item.
+#![tactic(auto)]
+
 ghost use Rattle.std.specs.Prelude.{◌≡◌, ◌&&◌, ◌+◌, ◌*◌, ◌≤◌, length, ltb, leb};
 ghost use Rattle.code_item.specs.Covering.{cover_at};
 ghost use Rattle.code_item.specs.Code.{outline_at, covering_of, try_of, handler_of, pair_of, catch_in, pair_in};
@@ -13,7 +15,7 @@ use refusal::Refusal;
 use word::Endian;
 
 // The sizes, counts and places of a code item: 16 bytes after its place its units begin, its tries at `from`, its handler list at `base`.
-#[derive(Drop)]
+#[derive(Clone, Copy)]
 pub struct Outline {
     pub head: CodeHead,
     pub handlers: u32,
@@ -22,27 +24,27 @@ pub struct Outline {
     pub end: usize,
 }
 
-#[derive(Drop)]
+#[derive(Clone, Copy)]
 pub enum CodeAnswer {
     Got(Outline),
     Refused(Refusal),
 }
 
 // A try, and the number of its handler in the list.
-#[derive(Drop)]
+#[derive(Clone, Copy)]
 pub enum TryAnswer {
     Got { attempt: Try, number: u32 },
     Refused(Refusal),
 }
 
 // Where the catch-all begins.
-#[derive(Drop)]
+#[derive(Clone, Copy)]
 pub enum Catch {
     Absent,
     At(u32),
 }
 
-#[derive(Drop)]
+#[derive(Clone, Copy)]
 pub enum HandlerAnswer {
     Got {
         offset: usize,
@@ -52,20 +54,20 @@ pub enum HandlerAnswer {
     Refused(Refusal),
 }
 
-#[derive(Drop)]
+#[derive(Clone, Copy)]
 pub enum PairAnswer {
     Got(Pair),
     Refused(Refusal),
 }
 
 // The number of the try that covers an address.
-#[derive(Drop)]
+#[derive(Clone, Copy)]
 pub enum CoveringTry {
     Absent,
     Number(u32),
 }
 
-#[derive(Drop)]
+#[derive(Clone, Copy)]
 pub enum CoveringTryAnswer {
     Got(CoveringTry),
     Refused(Refusal),

@@ -1,4 +1,6 @@
 // The readers of code, each over a lent file, by class, list and member (class_readers): the code item whole, then 7 for the number in it; 19 last.
+#![tactic(auto)]
+
 use code_bodies::Try;
 use code_item::{Catch, Outline};
 use handlers::Pair;
@@ -8,7 +10,7 @@ mod methods;
 
 pub use methods::{code, covering_try, handler, handler_count, handler_pair, try_item, units};
 
-#[derive(Drop)]
+#[derive(Clone, Copy)]
 pub enum MaybeCodeAnswer {
     Absent,
     Got(Outline),
@@ -16,7 +18,7 @@ pub enum MaybeCodeAnswer {
 }
 
 // A try, and the number of its handler in the list.
-#[derive(Drop)]
+#[derive(Clone, Copy)]
 pub enum MaybeTryAnswer {
     Absent,
     Got { attempt: Try, number: u32 },
@@ -24,7 +26,7 @@ pub enum MaybeTryAnswer {
 }
 
 // A handler's offset in the list, how many pairs it has, and its catch-all.
-#[derive(Drop)]
+#[derive(Clone, Copy)]
 pub enum MaybeHandlerAnswer {
     Absent,
     Got {
@@ -35,7 +37,7 @@ pub enum MaybeHandlerAnswer {
     Refused(Refusal),
 }
 
-#[derive(Drop)]
+#[derive(Clone, Copy)]
 pub enum MaybePairAnswer {
     Absent,
     Got(Pair),

@@ -1,4 +1,6 @@
 // The units of a code item, handed out as 16-bit units into a lent output.
+#![tactic(auto)]
+
 ghost use Rattle.std.specs.Prelude.{◌≡◌, ◌+◌, ◌*◌, ◌≤◌, length};
 ghost use Rattle.code_units.specs.Units.{units_at, filled, into_at, left_at};
 ghost use Rattle.code_units.specs.Answers.{units_outcome};
@@ -6,7 +8,7 @@ ghost use Rattle.code_units.specs.Answers.{units_outcome};
 use refusal::Refusal;
 use word::Endian;
 
-#[derive(Drop)]
+#[derive(Clone, Copy)]
 pub enum UnitsAnswer {
     Written(u32),
     Refused(Refusal),

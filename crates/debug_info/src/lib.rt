@@ -1,5 +1,7 @@
 // Debug information: a starting line, parameter names, and a line program.
 // `s` ends where the data section ends, `item` is the place of the debug information.
+#![tactic(auto)]
+
 ghost use Rattle.std.specs.Prelude.{◌≡◌, cond};
 ghost use Rattle.debug_info.specs.Debug.{named, name_at, kept_names, zero_at, body_at, kept_debug_at, extent_at, name_of};
 ghost use Rattle.debug_info.specs.Answers.{name_meant, name_found_outcome, zero_outcome, kept_debug_outcome, debug_outcome, name_outcome};
@@ -8,28 +10,28 @@ use leb128::{LebAnswer, PlusOneAnswer};
 use refusal::Refusal;
 
 // A parameter's name: none, or the number of a string.
-#[derive(Drop)]
+#[derive(Clone, Copy)]
 pub enum Name {
     Absent,
     Given(u32),
 }
 
 // A name as it is read, and the place after it.
-#[derive(Drop)]
+#[derive(Clone, Copy)]
 pub enum NameFoundAnswer {
     Got { name: Name, next: usize },
     Refused(Refusal),
 }
 
 // The place of the zero byte that ends a line program.
-#[derive(Drop)]
+#[derive(Clone, Copy)]
 pub enum ZeroAnswer {
     Got(usize),
     Refused(Refusal),
 }
 
 // The whole, with one name kept.
-#[derive(Drop)]
+#[derive(Clone, Copy)]
 pub enum KeptDebugAnswer {
     Got {
         line: u32,
@@ -42,7 +44,7 @@ pub enum KeptDebugAnswer {
 }
 
 // The starting line, how many names, and where the line program lies, without its zero byte.
-#[derive(Drop)]
+#[derive(Clone, Copy)]
 pub enum DebugAnswer {
     Got {
         line: u32,
@@ -53,7 +55,7 @@ pub enum DebugAnswer {
     Refused(Refusal),
 }
 
-#[derive(Drop)]
+#[derive(Clone, Copy)]
 pub enum NameAnswer {
     Got(Name),
     Refused(Refusal),

@@ -1,4 +1,6 @@
 // The readers of debug information, each over a lent file, by class, list and member (class_readers): the item whole, then 7 for the number in it.
+#![tactic(auto)]
+
 use debug_info::Name;
 use refusal::Refusal;
 
@@ -7,7 +9,7 @@ mod lines;
 pub use lines::{debug, debug_parameter, line_program};
 
 // The starting line, how many names, and where the line program lies, without its zero byte.
-#[derive(Drop)]
+#[derive(Clone, Copy)]
 pub enum MaybeDebugAnswer {
     Absent,
     Got {
@@ -19,7 +21,7 @@ pub enum MaybeDebugAnswer {
     Refused(Refusal),
 }
 
-#[derive(Drop)]
+#[derive(Clone, Copy)]
 pub enum MaybeNameAnswer {
     Absent,
     Got(Name),

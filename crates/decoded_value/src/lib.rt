@@ -1,5 +1,7 @@
 // One value read out: a kind with its number, floats included, or a nested body's offset and length in bytes. No recursion: a nested
 // body is only gone over.
+#![tactic(auto)]
+
 ghost use Rattle.std.specs.Prelude.{◌≡◌, ◌+◌, ◌*◌, ◌^◌, ◌%◌, ◌/◌, ◌≤◌, ◌<◌, length, pos, negsuc};
 ghost use Rattle.std.specs.Float.Ieee.{of_bits};
 ghost use Rattle.std.specs.Float.{binary32, binary64};
@@ -13,7 +15,7 @@ use encoded_value::StepAnswer;
 use refusal::Refusal;
 use value_heads::{HeadByteAnswer, NumberAnswer, Walk};
 
-#[derive(Drop)]
+#[derive(Clone, Copy)]
 pub enum Value {
     Byte(i8),
     Short(i16),
@@ -29,7 +31,7 @@ pub enum Value {
     Boolean(bool),
 }
 
-#[derive(Drop)]
+#[derive(Clone, Copy)]
 pub enum DecodedAnswer {
     Got { value: Value, next: usize },
     Refused(Refusal),

@@ -1,4 +1,6 @@
 // The public readers of a DEX file, its whole check, and the types of their answers: each takes a lent file of any bytes and checks for itself.
+#![tactic(auto)]
+
 pub use access_flags::FlagsAnswer;
 pub use annotation_directories::DirectoryEntryAnswer;
 pub use annotation_directories::DirectoryHead;

@@ -1,4 +1,6 @@
 // Document 01's program: checks standard input, or each file that is named, and writes the report.
+#![tactic(auto)]
+
 fn main() {
     checking::run();
 }

@@ -1,5 +1,7 @@
 // The readers of the annotation directory of a class, each over a lent file: header (1 to 6), 7 for the class, its record, the directory whole, 7 for the
 // entry. A directory holds no values, so the map is not read. One piece serves the three lists: fields 0, methods 1, parameters 2.
+#![tactic(auto)]
+
 ghost use Rattle.std.specs.Prelude.{◌≡◌};
 ghost use Rattle.annotation_directories.specs.Answers.{directory_entry_outcome};
 ghost use Rattle.directory_readers.specs.Directories.{directory_in, directory_of, head_in, directory, entry_in, entry_number};
@@ -11,20 +13,20 @@ use header::{Header, HeaderAnswer};
 use refusal::Refusal;
 
 // A place in a file whose header was read, 0 where nothing is there.
-#[derive(Drop)]
+#[derive(Clone, Copy)]
 pub struct Reached {
     pub header: Header,
     pub place: u32,
 }
 
-#[derive(Drop)]
+#[derive(Clone, Copy)]
 pub enum ReachedAnswer {
     Got(Reached),
     Refused(Refusal),
 }
 
 // Where the class's set is (0 for none), and how many fields, methods and parameter entries there are.
-#[derive(Drop)]
+#[derive(Clone, Copy)]
 pub enum DirectoryAnswer {
     Got(DirectoryHead),
     Absent,

@@ -1,5 +1,7 @@
 // Going over values, arrays and annotations: every rule of document 01's "Values" is tested, and only the next position is answered.
 // `s` is the file up to the data section's end, so that a position past its length is 9.
+#![tactic(auto)]
+
 ghost use Rattle.std.specs.Prelude.{◌≡◌};
 ghost use Rattle.value_heads.specs.Kinds.{bytes_of};
 ghost use Rattle.encoded_value.specs.Readings.{start_at, past_number, past_plain, past_value, past_array, past_annotation};
@@ -19,7 +21,7 @@ pub const DEEPEST: u32 = 64;
 pub const DEEPEST_VALUE: u32 = DEEPEST - 1;
 
 // Where to go on.
-#[derive(Drop)]
+#[derive(Clone, Copy)]
 pub enum StepAnswer {
     Next(usize),
     Refused(Refusal),
@@ -71,7 +73,7 @@ fn index_past(s: &[u8], item: usize, named: bool, count: u32, at: usize) -> Step
 }
 
 // The body that a code opens: 0x1c an array, 0x1d an annotation. It has two callers and so is not compiled in: the loop over values stays small.
-#[cycle(annotation_body_array_body_body_past_inside_past_opened_past_values_past)]
+#[cycle(bodies)]
 fn opened_past(s: &[u8], w: Walk, code: u8, at: usize, left: u32) -> StepAnswer
     ensures { step_outcome result ≡ past_opened s.now w left code at }
 {
@@ -82,7 +84,7 @@ fn opened_past(s: &[u8], w: Walk, code: u8, at: usize, left: u32) -> StepAnswer
 }
 
 // What stands behind a head byte: the body that it opens, or its bytes. The loop over values is the one caller, and has this compiled in: most values open no body.
-#[cycle(annotation_body_array_body_body_past_inside_past_opened_past_values_past)]
+#[cycle(bodies)]
 fn inside_past(s: &[u8], w: Walk, head: u8, at: usize, left: u32) -> StepAnswer
     ensures { step_outcome result ≡ past_inside s.now w left head at }
 {
@@ -97,7 +99,7 @@ fn inside_past(s: &[u8], w: Walk, head: u8, at: usize, left: u32) -> StepAnswer
 }
 
 // The values of a body, each with its name in front where the body is an annotation.
-#[cycle(annotation_body_array_body_body_past_inside_past_opened_past_values_past)]
+#[cycle(bodies)]
 fn values_past(s: &[u8], w: Walk, named: bool, from: usize, count: u32, left: u32) -> StepAnswer
     ensures { step_outcome result ≡ past_values s.now w named left count from }
 {
@@ -128,7 +130,7 @@ fn values_past(s: &[u8], w: Walk, named: bool, from: usize, count: u32, left: u3
 }
 
 // A body, if one more may be opened: the type of an annotation, the size, and the values, of which each may open one body less.
-#[cycle(annotation_body_array_body_body_past_inside_past_opened_past_values_past)]
+#[cycle(bodies)]
 fn body_past(s: &[u8], w: Walk, named: bool, at: usize, left: u32) -> StepAnswer
     ensures { step_outcome result ≡ past_body s.now w named left at }
 {
@@ -171,7 +173,7 @@ pub fn value(s: &[u8], w: Walk, at: usize, left: u32) -> StepAnswer
 }
 
 // An array's body: its size, then its values.
-#[cycle(annotation_body_array_body_body_past_inside_past_opened_past_values_past)]
+#[cycle(bodies)]
 pub fn array_body(s: &[u8], w: Walk, at: usize, left: u32) -> StepAnswer
     ensures { step_outcome result ≡ past_array s.now w left at }
 {
@@ -179,7 +181,7 @@ pub fn array_body(s: &[u8], w: Walk, at: usize, left: u32) -> StepAnswer
 }
 
 // An annotation's body: its type, its size, then its named values.
-#[cycle(annotation_body_array_body_body_past_inside_past_opened_past_values_past)]
+#[cycle(bodies)]
 pub fn annotation_body(s: &[u8], w: Walk, at: usize, left: u32) -> StepAnswer
     ensures { step_outcome result ≡ past_annotation s.now w left at }
 {

@@ -1,4 +1,6 @@
 // What a program's input comes to.
+#![tactic(auto)]
+
 ghost use Rattle.std.specs.Prelude.{◌≡◌};
 ghost use Rattle.verdict.specs.Answers.{verdict_outcome};
 ghost use Rattle.file_report.specs.Input.{input_at};

@@ -1,11 +1,13 @@
 // What every item of a file is read against: the byte order, the counts that indices are tested by, and the data section that offsets
 // are tested by. An item is read from the file up to the data section's end, so that end is a slice's length and not part of a frame.
+#![tactic(auto)]
+
 ghost use Rattle.std.specs.Prelude.{◌≡◌};
 ghost use Rattle.frame.specs.Offsets.{allowed, allowed_or_absent};
 
 use word::Endian;
 
-#[derive(Drop)]
+#[derive(Clone, Copy)]
 pub struct Frame {
     pub order: Endian,
     pub start: usize,

@@ -1,5 +1,7 @@
 // The handler list of a code item: for each handler its pairs of a type and an address, and a catch-all.
 // `s` ends where the data section ends, `item` is the place of the code item, `base` that of the list.
+#![tactic(auto)]
+
 ghost use Rattle.std.specs.Prelude.{◌≡◌, cond, ◌-◌};
 ghost use Rattle.leb128.specs.Answers.{leb_outcome};
 ghost use Rattle.handlers.specs.Handlers.{catches, address_at, pair_at, kept_pairs, all_at, rest_at, kept_handler, kept_list, kept_handlers_at};
@@ -9,14 +11,14 @@ use leb128::{LebAnswer, SignedLebAnswer};
 use refusal::Refusal;
 
 // The number of a type, and the address of the code that handles it.
-#[derive(Drop)]
+#[derive(Clone, Copy)]
 pub struct Pair {
     pub kind: u32,
     pub address: u32,
 }
 
 // What items are judged by: how many types there are, how many units, and where the handler list begins.
-#[derive(Drop)]
+#[derive(Clone, Copy)]
 pub struct HandlerJudge {
     pub types: u32,
     pub units: u32,
@@ -25,7 +27,7 @@ pub struct HandlerJudge {
 }
 
 // A handler with one of its pairs: its offset from the list's first byte, how many pairs, and the catch-all's address where there is one.
-#[derive(Drop)]
+#[derive(Clone, Copy)]
 pub struct Brief {
     pub offset: usize,
     pub pairs: u32,
@@ -34,27 +36,27 @@ pub struct Brief {
     pub all: u32,
 }
 
-#[derive(Drop)]
+#[derive(Clone, Copy)]
 pub enum PairFoundAnswer {
     Got { pair: Pair, next: usize },
     Refused(Refusal),
 }
 
 // Whether there is a catch-all, and its address.
-#[derive(Drop)]
+#[derive(Clone, Copy)]
 pub enum CatchAllAnswer {
     Got { caught: bool, all: u32, next: usize },
     Refused(Refusal),
 }
 
-#[derive(Drop)]
+#[derive(Clone, Copy)]
 pub enum BriefAnswer {
     Got { brief: Brief, next: usize },
     Refused(Refusal),
 }
 
 // How many handlers, one of them, where the first begins, and the place after the list.
-#[derive(Drop)]
+#[derive(Clone, Copy)]
 pub enum HandlersAnswer {
     Got {
         count: u32,

@@ -1,4 +1,6 @@
 // The header of a DEX file: rules 1 to 6, in that order, at place 0.
+#![tactic(auto)]
+
 ghost use Rattle.std.specs.Prelude.{◌≡◌};
 ghost use Rattle.header.specs.Header.{four_of, four, version_at, order_at, table_allowed, table_at, three_at, section_at, joined, sectioned_at, tables_at, body_at, versioned_at, header_at, up_to_end, frame_of, plain_frame};
 ghost use Rattle.header.specs.Answers.{order_outcome, table_outcome, three_outcome, section_outcome, header_outcome};
@@ -8,13 +10,13 @@ use refusal::Refusal;
 use word::Endian;
 
 // A table: how many records, and where the first one is.
-#[derive(Drop)]
+#[derive(Clone, Copy)]
 pub struct Table {
     pub count: u32,
     pub offset: u32,
 }
 
-#[derive(Drop)]
+#[derive(Clone, Copy)]
 pub struct Header {
     pub version: u32,
     pub order: Endian,
@@ -30,21 +32,21 @@ pub struct Header {
     pub end: usize,
 }
 
-#[derive(Drop)]
+#[derive(Clone, Copy)]
 pub enum HeaderAnswer {
     Got(Header),
     Refused(Refusal),
 }
 
 // What a table's records are: how many bytes each, and how many there may be.
-#[derive(Drop)]
+#[derive(Clone, Copy)]
 pub struct Shape {
     pub width: u32,
     pub most: u32,
 }
 
 // Three tables whose places stand in a row.
-#[derive(Drop)]
+#[derive(Clone, Copy)]
 pub struct Three {
     pub first: Table,
     pub second: Table,
@@ -52,31 +54,31 @@ pub struct Three {
 }
 
 // The data section: from where, and up to where.
-#[derive(Drop)]
+#[derive(Clone, Copy)]
 pub struct Section {
     pub start: usize,
     pub end: usize,
 }
 
-#[derive(Drop)]
+#[derive(Clone, Copy)]
 pub enum OrderAnswer {
     Got(Endian),
     Refused(Refusal),
 }
 
-#[derive(Drop)]
+#[derive(Clone, Copy)]
 pub enum TableAnswer {
     Got(Table),
     Refused(Refusal),
 }
 
-#[derive(Drop)]
+#[derive(Clone, Copy)]
 pub enum ThreeAnswer {
     Got(Three),
     Refused(Refusal),
 }
 
-#[derive(Drop)]
+#[derive(Clone, Copy)]
 pub enum SectionAnswer {
     Got(Section),
     Refused(Refusal),

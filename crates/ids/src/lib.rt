@@ -1,4 +1,6 @@
 // The records of types, protos, fields, methods and method handles. Each is read by where its table begins and its number in it.
+#![tactic(auto)]
+
 ghost use Rattle.std.specs.Prelude.{◌≡◌};
 ghost use Rattle.ids.specs.Records.{type_at, proto_at, member_id_at, handle_at};
 ghost use Rattle.ids.specs.Answers.{index_outcome, proto_outcome, member_id_outcome, handle_outcome};
@@ -6,48 +8,48 @@ ghost use Rattle.ids.specs.Answers.{index_outcome, proto_outcome, member_id_outc
 use frame::Frame;
 use refusal::Refusal;
 
-#[derive(Drop)]
+#[derive(Clone, Copy)]
 pub enum IndexAnswer {
     Got(u32),
     Refused(Refusal),
 }
 
 // A proto: its shorty, its return type, and where its parameters are, 0 for none.
-#[derive(Drop)]
+#[derive(Clone, Copy)]
 pub struct Proto {
     pub shorty: u32,
     pub return_type: u32,
     pub parameters: u32,
 }
 
-#[derive(Drop)]
+#[derive(Clone, Copy)]
 pub enum ProtoAnswer {
     Got(Proto),
     Refused(Refusal),
 }
 
 // A field or a method: its class, its type or proto, and its name.
-#[derive(Drop)]
+#[derive(Clone, Copy)]
 pub struct MemberId {
     pub class: u32,
     pub kind: u32,
     pub name: u32,
 }
 
-#[derive(Drop)]
+#[derive(Clone, Copy)]
 pub enum MemberIdAnswer {
     Got(MemberId),
     Refused(Refusal),
 }
 
 // A method handle: its kind, and the field (0 to 3) or the method (4 to 8) that it names.
-#[derive(Drop)]
+#[derive(Clone, Copy)]
 pub struct Handle {
     pub kind: u32,
     pub number: u32,
 }
 
-#[derive(Drop)]
+#[derive(Clone, Copy)]
 pub enum HandleAnswer {
     Got(Handle),
     Refused(Refusal),

@@ -1,5 +1,7 @@
 // Asks the readers of items questions, and writes a line for each answer: vectors/questions.py says how items and questions are read from standard
 // input, and the scripts beside it what must be written.
+#![tactic(auto)]
+
 mod members;
 mod notes;
 mod numbers;

@@ -26,6 +26,7 @@ groups_one {n} {b} h = record { some_byte = omega arith; few = omega arith; goes
   where
     go : {k c : ℕ} → At (b ∷ []) k c → suc k ≡ 1 → c < 128
     go here e = h
+    go {c = c} (there {k = k} x6) e = elim x6 [ ]
 
 groups_more : {n b : ℕ} {l : List ℕ} → 128 ≤ b → Groups n l → Groups (suc n) (b ∷ l)
 groups_more {n} {b} {l} h g = record { some_byte = omega arith; few = let z = g.few in omega arith; goes_on = on; stops = off }

@@ -1,5 +1,7 @@
 // LEB128 numbers: at most five bytes, seven bits each, the lowest first.
 // `s` ends where the data section ends, `item` is the place of the item that the number is read for.
+#![tactic(auto)]
+
 ghost use Rattle.std.specs.Prelude.{◌≡◌};
 ghost use Rattle.leb128.specs.Leb.{uleb_at, sleb_at, plus_one_at, weighed_at};
 ghost use Rattle.leb128.specs.Answers.{weighed_outcome, leb_outcome, signed_outcome, plus_one_outcome};
@@ -7,25 +9,25 @@ ghost use Rattle.leb128.specs.Answers.{weighed_outcome, leb_outcome, signed_outc
 use refusal::Refusal;
 
 // The low seven bits of one to five bytes joined, and 128 to the count of the bytes.
-#[derive(Drop)]
+#[derive(Clone, Copy)]
 pub enum WeighedAnswer {
     Got { value: u64, scale: u64, next: usize },
     Refused(Refusal),
 }
 
-#[derive(Drop)]
+#[derive(Clone, Copy)]
 pub enum LebAnswer {
     Got { value: u32, next: usize },
     Refused(Refusal),
 }
 
-#[derive(Drop)]
+#[derive(Clone, Copy)]
 pub enum SignedLebAnswer {
     Got { value: i32, next: usize },
     Refused(Refusal),
 }
 
-#[derive(Drop)]
+#[derive(Clone, Copy)]
 pub enum PlusOneAnswer {
     Got { value: u32, next: usize },
     Absent { next: usize },

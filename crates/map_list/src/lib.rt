@@ -1,4 +1,6 @@
 // The map list: its entries' rules, all 16 at the map's offset, and where the method handles are.
+#![tactic(auto)]
+
 ghost use Rattle.std.specs.Prelude.{◌≡◌, ◌+◌, ◌*◌, ◌≤◌, length};
 ghost use Rattle.map_list.specs.Codes.{map_code_number};
 ghost use Rattle.map_list.specs.Map.{entry_at, entry_number, handles_allowed, entry_allowed, next_allowed, handles_of, scan_at, kept_list_at, kept_at};
@@ -14,7 +16,7 @@ const CODES: [u16; 21] = [
     0x1003, 0x2000, 0x2001, 0x2002, 0x2003, 0x2004, 0x2005, 0x2006, 0xf000,
 ];
 
-#[derive(Drop)]
+#[derive(Clone, Copy)]
 pub struct MapEntry {
     pub kind: u16,
     pub size: u32,
@@ -22,20 +24,20 @@ pub struct MapEntry {
 }
 
 // How many entries, and the table of method handles.
-#[derive(Drop)]
+#[derive(Clone, Copy)]
 pub struct MapList {
     pub count: u32,
     pub handles: Table,
 }
 
-#[derive(Drop)]
+#[derive(Clone, Copy)]
 pub enum MapAnswer {
     Got(MapList),
     Refused(Refusal),
 }
 
 // What entries are judged by: the file's length, and the map's own place.
-#[derive(Drop)]
+#[derive(Clone, Copy)]
 pub struct MapJudge {
     pub order: Endian,
     pub version: u32,
@@ -43,7 +45,7 @@ pub struct MapJudge {
     pub at: usize,
 }
 
-#[derive(Drop)]
+#[derive(Clone, Copy)]
 pub enum HandlesAnswer {
     Got(Table),
     Refused(Refusal),

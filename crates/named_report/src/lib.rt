@@ -1,4 +1,6 @@
 // What goes out for an input: the line of its name, where it has one, and its report, into a lent output. So it can be written in one piece.
+#![tactic(auto)]
+
 ghost use Rattle.std.specs.Prelude.{◌≡◌, ◌+◌, ◌≤◌, length};
 ghost use Rattle.verdict.specs.Answers.{verdict_outcome};
 ghost use Rattle.report.specs.Stored.{Stored, written, content};

@@ -1,5 +1,7 @@
 // Asks the readers questions about files, and writes a line for each answer: vectors/questions.py says how a file and its questions are read from
 // standard input, and the scripts beside it what must be written.
+#![tactic(auto)]
+
 mod classes;
 mod code;
 mod heads;

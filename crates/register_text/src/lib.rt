@@ -1,4 +1,6 @@
 // What a line of the register is made of, byte for byte, into a lent output: texts escaped, numbers in decimal and in hexadecimal, and the whole number that a float is.
+#![tactic(auto)]
+
 ghost use Rattle.std.specs.Prelude.{◌≡◌, [], ◌∷◌, true, ◌+◌, ◌/◌, ◌%◌, ◌≤◌, ◌<◌, length};
 ghost use Rattle.report.specs.Answers.{report_outcome};
 ghost use Rattle.report.specs.Stored.{Stored, written, content};
@@ -10,21 +12,21 @@ ghost use Rattle.register_text.specs.Answers.{half_worth, whole_worth};
 use report::ReportAnswer;
 
 // How far a text has been written: the place of its next byte, and how many bytes of the output are used.
-#[derive(Drop)]
+#[derive(Clone, Copy)]
 pub struct Piece {
     pub next: usize,
     pub used: usize,
 }
 
 // A number that was halved, where it stayed whole.
-#[derive(Drop)]
+#[derive(Clone, Copy)]
 pub enum Half {
     Whole(u64),
     Broken,
 }
 
 // The whole number that a float is, where it is one; 0 is never negative.
-#[derive(Drop)]
+#[derive(Clone, Copy)]
 pub enum Whole {
     Number { negative: bool, magnitude: u64 },
     Absent,

@@ -8,7 +8,7 @@ use leb128::LebAnswer;
 use value_heads::Walk;
 
 // The field entries of a directory: where it is, how many there are, and whether their fields are in rising order.
-#[derive(Drop)]
+#[derive(Clone, Copy)]
 pub struct Entries {
     pub directory: u32,
     pub count: u32,
@@ -17,14 +17,14 @@ pub struct Entries {
 }
 
 // How many annotations were written, and how much of the output is used.
-#[derive(Drop)]
+#[derive(Clone, Copy)]
 pub struct Numbered {
     pub number: u32,
     pub used: usize,
 }
 
 // The entry to go on with at the next field, and how much of the output is used.
-#[derive(Drop)]
+#[derive(Clone, Copy)]
 pub struct Reached {
     pub entry: u32,
     pub used: usize,

@@ -12,14 +12,14 @@ use map_list::MapAnswer;
 use text::TextAnswer;
 
 // How many things there are, and where they begin.
-#[derive(Drop)]
+#[derive(Clone, Copy)]
 struct Counted {
     count: u32,
     next: usize,
 }
 
 // The stored values that are left, and where the next is; and the entry of the directory to go on with.
-#[derive(Drop)]
+#[derive(Clone, Copy)]
 struct Rest {
     stored: u32,
     value: usize,

@@ -1,6 +1,8 @@
 // What the register's program does: reads an input whole as `checking` does, has it checked, and writes its register, or the refusal. docs/REGISTER.md says the
 // format. What is read and written no contract can say. Every reader here answers on an accepted file, which is not shown here. Where one did not, the register would
 // end and the exit status say so; but a directory or a count that could not be read would be taken for none.
+#![tactic(auto)]
+
 ghost use Rattle.checking.specs.Status.{Comes};
 ghost use Rattle.registering.specs.Ends.{Ended};
 

@@ -16,7 +16,7 @@ const NAMED: u64 = 8589934592;
 
 // What the lines of a value share: the class's type, the field's name where the value is a field's, and the fact that it is: 0 a stored value, 1 a value by
 // default, 2 an annotation, and its number.
-#[derive(Drop)]
+#[derive(Clone, Copy)]
 pub struct Fact {
     pub class: u32,
     pub of_field: bool,
@@ -26,14 +26,14 @@ pub struct Fact {
 }
 
 // Where to go on, and how much of the output is used.
-#[derive(Drop)]
+#[derive(Clone, Copy)]
 pub struct Gone {
     pub next: usize,
     pub used: usize,
 }
 
 // The same, and the body that a value opens: how many values are in it, and whether each has a name.
-#[derive(Drop)]
+#[derive(Clone, Copy)]
 struct Shown {
     next: usize,
     used: usize,
@@ -43,7 +43,7 @@ struct Shown {
 }
 
 // A step, and where its value is.
-#[derive(Drop)]
+#[derive(Clone, Copy)]
 struct Entered {
     step: u64,
     at: usize,

@@ -1,4 +1,6 @@
 // The report of a check: lines of a name and a value, byte for byte, into a lent output.
+#![tactic(auto)]
+
 ghost use Rattle.std.specs.Prelude.{◌≡◌, [], ◌∷◌, ◌++◌, ◌+◌, ◌<◌, ◌≤◌, length};
 ghost use Rattle.report.specs.Decimal.{decimal};
 ghost use Rattle.report.specs.Lines.{lines, counted, order_line, ascii, accepted_lines, refused_lines, report_of};
@@ -12,7 +14,7 @@ use refusal::Refusal;
 use verdict::Verdict;
 use word::Endian;
 
-#[derive(Drop)]
+#[derive(Clone, Copy)]
 pub enum ReportAnswer {
     Got(usize),
     Refused(Refusal),

@@ -1,5 +1,7 @@
 // The readers of annotations by number, each over a lent file: how many a set has, and where each is; the directory first, whole, then each item on the way,
 // each followed by 7 for its inner number. One piece serves the sets of class, field, method and parameter; a set that is absent is empty.
+#![tactic(auto)]
+
 ghost use Rattle.std.specs.Prelude.{◌≡◌};
 ghost use Rattle.annotation_lists.specs.Answers.{word_outcome};
 ghost use Rattle.set_readers.specs.Sets.{class_set_in, class_set, entry_set_in, entry_set, parameter_set_in, parameter_set};

@@ -1,4 +1,6 @@
 // A signed size or number as a count, with no overflow at the least number: "Negating the least 32-bit size" is one of document 01's slips.
+#![tactic(auto)]
+
 ghost use Rattle.std.specs.Prelude.{◌≡◌};
 ghost use Rattle.sign.specs.Magnitude.{magnitude};
 

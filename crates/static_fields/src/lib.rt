@@ -1,5 +1,7 @@
 // Static fields with their values, and the first whose value has the wrong kind: header, map, 7 for the class, its record, class data whole, 7 for the field,
 // static values whole, 21; then, where it is asked for, the text of a field's type.
+#![tactic(auto)]
+
 use decoded_value::Value;
 use refusal::Refusal;
 
@@ -12,7 +14,7 @@ pub use pairs::static_field;
 
 // A static field with its value; none where the class has no class data. `stored` is false where the value is past the list, and so the zero, false or null that
 // the text of the field's type calls for.
-#[derive(Drop)]
+#[derive(Clone, Copy)]
 pub enum StaticFieldAnswer {
     Absent,
     Got {
@@ -25,35 +27,35 @@ pub enum StaticFieldAnswer {
 }
 
 // The first static field whose value has the wrong kind, by its number in the list and the field's; none where every kind fits.
-#[derive(Drop)]
+#[derive(Clone, Copy)]
 pub enum WrongKindAnswer {
     Absent,
     Got { k: u32, field: u32 },
     Refused(Refusal),
 }
 
-#[derive(Drop)]
+#[derive(Clone, Copy)]
 pub enum FitsAnswer {
     Got(bool),
     Refused(Refusal),
 }
 
 // A value's kind, and the place after it.
-#[derive(Drop)]
+#[derive(Clone, Copy)]
 pub enum KindAnswer {
     Got { kind: u8, next: usize },
     Refused(Refusal),
 }
 
 // Whether a value fits its field, and the place after it.
-#[derive(Drop)]
+#[derive(Clone, Copy)]
 pub enum FitsNextAnswer {
     Got { fits: bool, next: usize },
     Refused(Refusal),
 }
 
 // How many there are, and where the first begins.
-#[derive(Drop)]
+#[derive(Clone, Copy)]
 pub enum BeginAnswer {
     Got { count: u32, from: usize },
     Refused(Refusal),

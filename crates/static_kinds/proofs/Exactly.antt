@@ -67,6 +67,7 @@ own_kind (there (there (there (there here)))) = refl
 own_kind (there (there (there (there (there here))))) = refl
 own_kind (there (there (there (there (there (there here)))))) = refl
 own_kind (there (there (there (there (there (there (there here))))))) = refl
+own_kind {r = r} (there (there (there (there (there (there (there (there {k = k} x40)))))))) = elim x40 [ ]
 
 pub row_fits : {k : ℕ} {r : TextKind} → At eight k r → fits r.text r.kind ≡ true
 unfolding eight fits suits kind_called row_of same_bytes
@@ -78,6 +79,7 @@ row_fits (there (there (there (there here)))) = refl
 row_fits (there (there (there (there (there here))))) = refl
 row_fits (there (there (there (there (there (there here)))))) = refl
 row_fits (there (there (there (there (there (there (there here))))))) = refl
+row_fits {r = r} (there (there (there (there (there (there (there (there {k = k} x40)))))))) = elim x40 [ ]
 
 pub row_default : {k : ℕ} {r : TextKind} → At eight k r → default r.text ≡ unset_of r
 unfolding eight default row_of same_bytes
@@ -89,6 +91,7 @@ row_default (there (there (there (there here)))) = refl
 row_default (there (there (there (there (there here))))) = refl
 row_default (there (there (there (there (there (there here)))))) = refl
 row_default (there (there (there (there (there (there (there here))))))) = refl
+row_default {r = r} (there (there (there (there (there (there (there (there {k = k} x40)))))))) = elim x40 [ ]
 
 -- ---- which kinds fit
 module _ (text : List ℕ) (kind : ℕ) where

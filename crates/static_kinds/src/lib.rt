@@ -1,4 +1,6 @@
 // What the text of a static field's type says of the field's value: which kind it takes, and what stands where no value is stored.
+#![tactic(auto)]
+
 ghost use Rattle.std.specs.Prelude.{◌≡◌, [], ◌∷◌};
 ghost use Rattle.decoded_value.specs.Shown.{value_shown};
 ghost use Rattle.static_kinds.specs.Kinds.{kind_called, default, suits, fits, unset_by};

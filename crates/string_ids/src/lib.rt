@@ -1,4 +1,6 @@
 // The string table: its records, the texts that they name, and their order.
+#![tactic(auto)]
+
 ghost use Rattle.std.specs.Prelude.{◌≡◌};
 ghost use Rattle.text.specs.Answers.{text_outcome};
 ghost use Rattle.string_ids.specs.Strings.{string_place, record_at, string_extent, less_bytes, strings_checked, looked_up};
@@ -15,27 +17,27 @@ use text::TextAnswer;
 use text_order::Order;
 
 // Where a string data item is.
-#[derive(Drop)]
+#[derive(Clone, Copy)]
 pub enum ItemPlaceAnswer {
     At(usize),
     Refused(Refusal),
 }
 
 // Where the last text's bytes lie, if there is one.
-#[derive(Drop)]
+#[derive(Clone, Copy)]
 pub enum Last {
     Start,
     After { start: usize, length: usize },
 }
 
 // A number, or none.
-#[derive(Drop)]
+#[derive(Clone, Copy)]
 pub enum FoundString {
     Number(u32),
     Absent,
 }
 
-#[derive(Drop)]
+#[derive(Clone, Copy)]
 pub enum LookupAnswer {
     Got(FoundString),
     Refused(Refusal),

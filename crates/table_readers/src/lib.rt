@@ -1,5 +1,7 @@
 // The readers of header, map, records, texts and type lists, each over a lent file: header (1 to 6), the map where it is read (8, 9, 16),
 // 7 for a number that is not there, the record, then each item on the way.
+#![tactic(auto)]
+
 use header::Header;
 use map_list::MapEntry;
 use refusal::Refusal;
@@ -16,26 +18,26 @@ pub use lists::{interface, interface_count, parameter, parameter_count};
 pub use strings::{find_string, string, string_bytes};
 pub use tables::{class, class_in, field, handle, method, proto, type_name};
 
-#[derive(Drop)]
+#[derive(Clone, Copy)]
 pub enum CountAnswer {
     Got(u32),
     Refused(Refusal),
 }
 
-#[derive(Drop)]
+#[derive(Clone, Copy)]
 pub enum MapEntryAnswer {
     Got(MapEntry),
     Refused(Refusal),
 }
 
 // A file's header, and how many method handles its map gives.
-#[derive(Drop)]
+#[derive(Clone, Copy)]
 pub struct Opened {
     pub header: Header,
     pub handles: u32,
 }
 
-#[derive(Drop)]
+#[derive(Clone, Copy)]
 pub enum OpenedAnswer {
     Got(Opened),
     Refused(Refusal),

@@ -1,5 +1,7 @@
 // Texts in modified UTF-8: a string data item read at a place.
 // `s` ends where the data section ends, `item` is the place of the string data item.
+#![tactic(auto)]
+
 ghost use Rattle.std.specs.Prelude.{◌≡◌, ◌+◌, ◌<◌, ◌≤◌, length};
 ghost use Rattle.text.specs.Text.{two_at, three_at, wide_at, count_at, extent_at};
 ghost use Rattle.text.specs.Singles.{FewSingles};
@@ -9,21 +11,21 @@ use leb128::LebAnswer;
 use refusal::Refusal;
 
 // A unit whose form has two or three bytes, and the place after it.
-#[derive(Drop)]
+#[derive(Clone, Copy)]
 pub enum WideAnswer {
     Got { unit: u32, next: usize },
     Refused(Refusal),
 }
 
 // How many units a text has, and the place of its zero byte.
-#[derive(Drop)]
+#[derive(Clone, Copy)]
 pub enum UnitCountAnswer {
     Got { units: usize, zero: usize },
     Refused(Refusal),
 }
 
 // Where a text's bytes begin, how many there are without the zero, and how many units.
-#[derive(Drop)]
+#[derive(Clone, Copy)]
 pub enum TextAnswer {
     Got {
         start: usize,

@@ -13,9 +13,11 @@ use Rattle.text_order.specs.Order.{Before, ends, lower, alike, compared, is_less
 use Rattle.text_order.specs.declared.Order.{Order}
 use Rattle.text_order.specs.declared.Order.TheVariants.{Less, Equal, Greater}
 
-never : (x : List ℕ) → Before x x → ⊥
-never (a ∷ x) (lower p) = omega arith
-never (a ∷ x) (alike h) = never x h
+-- what comes before another text is not that text
+apart : {x y : List ℕ} → Before x y → x ≡ y → ⊥
+apart ends e = cc
+apart (lower {a = a} {b = b} p) e = let same : a ≡ b = cc in omega arith
+apart (alike h) e = apart h (cc)
 
 onward : {x y z : List ℕ} → Before x y → Before y z → Before x z
 onward ends (lower q) = ends
@@ -24,6 +26,9 @@ onward (lower {a = a} p) (lower {b = c} q) = let r : a < c = omega arith in lowe
 onward (lower p) (alike k) = lower p
 onward (alike h) (lower q) = lower q
 onward (alike h) (alike k) = alike (onward h k)
+
+never : (x : List ℕ) → Before x x → ⊥
+never x h = apart h refl
 
 pub strict : Strict Before
 strict = record { never = λ {a} h. never a h; onward = onward }

@@ -1,8 +1,10 @@
 // The order of two texts, as their bytes tell it: proofs/ByUnits shows that it is the order by 16-bit units.
+#![tactic(auto)]
+
 ghost use Rattle.std.specs.Prelude.{◌≡◌};
 ghost use Rattle.text_order.specs.Order.{key, earlier, by_key};
 
-#[derive(Drop)]
+#[derive(Clone, Copy)]
 pub enum Order {
     Less,
     Equal,

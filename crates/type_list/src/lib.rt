@@ -1,4 +1,6 @@
 // Lists of types: the parameters of a proto and the interfaces of a class. `s` ends where the data section ends.
+#![tactic(auto)]
+
 ghost use Rattle.std.specs.Prelude.{◌≡◌, ◌+◌, ◌*◌, ◌≤◌, length};
 ghost use Rattle.type_list.specs.TypeList.{entry_number, all_at, count_at, number_at};
 ghost use Rattle.type_list.specs.Below.{list_count, types_accepted};
@@ -10,20 +12,20 @@ use refusal::{CheckAnswer, Refusal};
 use word::Endian;
 
 // What a list is read against: the byte order, how many types there are, and the list's own place.
-#[derive(Drop)]
+#[derive(Clone, Copy)]
 pub struct TypeListJudge {
     pub order: Endian,
     pub types: u32,
     pub at: usize,
 }
 
-#[derive(Drop)]
+#[derive(Clone, Copy)]
 pub enum TypeCountAnswer {
     Got(u32),
     Refused(Refusal),
 }
 
-#[derive(Drop)]
+#[derive(Clone, Copy)]
 pub enum TypeAnswer {
     Got(u32),
     Refused(Refusal),

@@ -1,4 +1,6 @@
 // Arrays and annotations by number: the body is gone over whole first, then a number that is not there is 7, then the k-th is read out.
+#![tactic(auto)]
+
 ghost use Rattle.std.specs.Prelude.{◌≡◌};
 ghost use Rattle.encoded_value.specs.Answers.{step_outcome};
 ghost use Rattle.value_bodies.specs.Bodies.{array_count, array_value, annotation_noted, annotation_element};
@@ -11,26 +13,26 @@ use leb128::LebAnswer;
 use refusal::Refusal;
 use value_heads::Walk;
 
-#[derive(Drop)]
+#[derive(Clone, Copy)]
 pub enum BodySizeAnswer {
     Got(u32),
     Refused(Refusal),
 }
 
-#[derive(Drop)]
+#[derive(Clone, Copy)]
 pub enum PickedAnswer {
     Got(Value),
     Refused(Refusal),
 }
 
 // An annotation's type, and how many elements it has.
-#[derive(Drop)]
+#[derive(Clone, Copy)]
 pub enum AnnotationHeadAnswer {
     Got { type_index: u32, count: u32 },
     Refused(Refusal),
 }
 
-#[derive(Drop)]
+#[derive(Clone, Copy)]
 pub enum ElementAnswer {
     Got { name: u32, value: Value },
     Refused(Refusal),

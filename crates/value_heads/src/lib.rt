@@ -1,5 +1,7 @@
 // The parts of a value that hold no other value: its head byte, its bytes as a number, and its index.
 // `s` is the file up to the data section's end, so that a position past its length is 9.
+#![tactic(auto)]
+
 ghost use Rattle.std.specs.Prelude.{◌≡◌, ◌+◌, ◌*◌, ◌^◌, ◌≤◌, ◌<◌, length};
 ghost use Rattle.word.specs.Bytes.{stretch};
 ghost use Rattle.value_heads.specs.Kinds.{allowed_head, bytes_of, is_index, walk_of, count_of, in_range};
@@ -18,7 +20,7 @@ pub const ARGUMENTS: [u8; 32] = [
 ];
 
 // What stays the same while the bodies of one item are gone over: the item's place, and the counts that indices are tested by.
-#[derive(Drop)]
+#[derive(Clone, Copy)]
 pub struct Walk {
     pub item: usize,
     pub strings: u32,
@@ -29,14 +31,14 @@ pub struct Walk {
     pub handles: u32,
 }
 
-#[derive(Drop)]
+#[derive(Clone, Copy)]
 pub enum HeadByteAnswer {
     Got(u8),
     Refused(Refusal),
 }
 
 // The number of a value's bytes, low first.
-#[derive(Drop)]
+#[derive(Clone, Copy)]
 pub enum NumberAnswer {
     Got { value: u64, next: usize },
     Refused(Refusal),

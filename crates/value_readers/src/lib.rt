@@ -1,5 +1,7 @@
 // Values by place and by class, and annotation items by place: header, map, 7 for a place outside the data section or a number, the item whole,
 // 7 for the inner number.
+#![tactic(auto)]
+
 use refusal::Refusal;
 
 mod bodies;
@@ -12,14 +14,14 @@ pub use items::{annotation, annotation_element};
 pub use statics::{static_value, static_value_count, value_in, values_in};
 
 // How many values an array has, and its length in bytes.
-#[derive(Drop)]
+#[derive(Clone, Copy)]
 pub enum ArrayAnswer {
     Got { count: u32, length: usize },
     Refused(Refusal),
 }
 
 // The type of an annotation body, how many elements it has, and its length in bytes.
-#[derive(Drop)]
+#[derive(Clone, Copy)]
 pub enum BodyAnswer {
     Got {
         type_index: u32,

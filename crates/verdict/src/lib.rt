@@ -1,9 +1,11 @@
 // What the whole check comes to.
+#![tactic(auto)]
+
 use header::Header;
 use refusal::Refusal;
 
 // The header of a file that obeys every rule, or the refusal.
-#[derive(Drop)]
+#[derive(Clone, Copy)]
 pub enum Verdict {
     Accepted(Header),
     Refused(Refusal),

@@ -1,4 +1,6 @@
 // The check of a whole file: header and map once, then each table with all below it, up to the first broken rule.
+#![tactic(auto)]
+
 ghost use Rattle.std.specs.Prelude.{◌≡◌};
 ghost use Rattle.refusal.specs.Answers.{checked_outcome};
 ghost use Rattle.verdict.specs.Answers.{verdict_outcome};

@@ -1,10 +1,12 @@
 // Bytes and words at a place of a file, in either byte order. Each reading is total: past the end a byte reads as 0.
+#![tactic(auto)]
+
 ghost use Rattle.std.specs.Prelude.{◌≡◌, ◌+◌, ◌*◌, get_or, leb};
 ghost use Rattle.word.specs.Bytes.{part};
 ghost use Rattle.word.specs.Words.{u16_of, u32_of, u16_at, u32_at};
 
 // The order in which a file holds the bytes of a word.
-#[derive(Drop)]
+#[derive(Clone, Copy)]
 pub enum Endian {
     Little,
     Big,

@@ -1,0 +1,28 @@
+use mathlib.Core.Path.{◌≡◌}
+use Rattle.code_bodies.proofs.Laws.{Linking, Starting, link_laws as laws}
+use Rattle.std.proofs.Common.{rules, cond, ◌+◌, ◌*◌, ◌≤◌, length, ℕ, ◌-◌, ◌<◌, ◌/◌, ◌%◌, Bool, true, false, nat_eq, nat_lt, List, [], ◌∷◌, ◌++◌, slice_index_or, slice_set, bit_and, bit_or, Fits, w8, w32, w64, Bor, MutBor}
+use Rattle.code_bodies.specs.Tries.{try_at, try_allowed, kept_try, kept_link}
+use Rattle.code_bodies.specs.Code.{linked_stage, listed_stage, parts_stage, body_stage, kept_code_at}
+use Rattle.code_bodies.specs.Answers.{try_found, link_outcome, kept_code_outcome}
+use Rattle.code_bodies.proofs.links_at.Goals as goal
+
+pub tries-init : goal.tries-init
+tries-init c = search laws
+
+pub loop-unseen-init : goal.loop-unseen-init
+loop-unseen-init c = search laws
+
+pub returns-in-Refused : goal.returns-in-Refused
+returns-in-Refused c = search laws
+
+pub tries-preserved : goal.tries-preserved
+tries-preserved c = search laws
+
+pub loop-unseen-preserved : goal.loop-unseen-preserved
+loop-unseen-preserved c = search laws
+
+pub returns-in-tries : goal.returns-in-tries
+returns-in-tries c = search laws
+
+pub returns : goal.returns
+returns c = search laws

@@ -1,0 +1,11 @@
+use Rattle.code_units.proofs.Laws.{Filling}
+use Rattle.std.proofs.Common.{◌≡◌, ◌+◌, ◌*◌, ◌≤◌, length, ℕ, ◌-◌, ◌<◌}
+use Rattle.code_units.specs.Units.{units_at, filled, into_at, left_at}
+use Rattle.code_units.specs.Answers.{units_outcome}
+use Rattle.code_units.proofs.fill.Given as goal
+
+abbrev pub invariant-loop-left : goal.invariant-loop-left
+invariant-loop-left l = Filling l.order l.s l.start l.count l.initial.out l.out l.p l.i l.left
+
+abbrev pub decreases-loop-left : goal.decreases-loop-left
+decreases-loop-left l = l.left

@@ -1,0 +1,17 @@
+use Rattle.debug_info.proofs.Laws.{Names, names_laws as laws}
+use Rattle.std.proofs.Common.{rules, ◌≡◌, cond, ℕ, ◌+◌, ◌-◌, ◌*◌, ◌<◌, ◌≤◌, length, ◌/◌, ◌%◌, Bool, true, false, nat_eq, nat_lt, List, [], ◌∷◌, ◌++◌, slice_index_or, slice_set, bit_and, bit_or, Fits, w8, w32, w64, Bor, MutBor}
+use Rattle.debug_info.specs.Debug.{named, name_at, kept_names, zero_at, body_at, kept_debug_at, extent_at, name_of}
+use Rattle.debug_info.specs.Answers.{name_meant, name_found_outcome, zero_outcome, kept_debug_outcome, debug_outcome, name_outcome}
+use Rattle.debug_info.proofs.names_at.Goals as goal
+
+pub loop-left-init : goal.loop-left-init
+loop-left-init c = search laws
+
+pub returns-in-Refused : goal.returns-in-Refused
+returns-in-Refused c = search laws
+
+pub loop-left-preserved : goal.loop-left-preserved
+loop-left-preserved c = search laws
+
+pub returns : goal.returns
+returns c = search laws

@@ -1,0 +1,34 @@
+use Rattle.decoded_value.proofs.Laws.{kind_laws as laws}
+use Rattle.std.proofs.Common.{rules, ◌≡◌, ◌+◌, ◌*◌, ◌^◌, ◌%◌, ◌/◌, ◌≤◌, ◌<◌, length, pos, negsuc, ℕ, ◌-◌, Bool, true, false, nat_eq, nat_lt, List, [], ◌∷◌, ◌++◌, slice_index_or, slice_set, bit_and, bit_or, Fits, w8, w32, w64, Bor, MutBor}
+use Rattle.std.specs.Float.Ieee.{of_bits}
+use Rattle.std.specs.Float.{binary32, binary64}
+use Rattle.value_heads.specs.Numbers.{signed, raised}
+use Rattle.encoded_value.specs.Tree.{byte, short, int, long, float, double, rest_of, plain_of}
+use Rattle.decoded_value.specs.Shown.{shown, value_shown}
+use Rattle.decoded_value.specs.Sizes.{Sized, Fitting}
+use Rattle.decoded_value.specs.Readings.{decoded_at, decoded_array, decoded_annotation, decoded_outcome}
+use Rattle.decoded_value.proofs.rest_of.Goals as goal
+
+pub float_of-requires : goal.float_of-requires
+float_of-requires c = search laws
+
+pub returns-then-code-eq16 : goal.returns-then-code-eq16
+returns-then-code-eq16 c = search laws
+
+pub double_of-requires : goal.double_of-requires
+double_of-requires c = search laws
+
+pub returns-then-code-eq17 : goal.returns-then-code-eq17
+returns-then-code-eq17 c = search laws
+
+pub returns-then-code-eq30 : goal.returns-then-code-eq30
+returns-then-code-eq30 c = search laws
+
+pub returns-then-code-eq31 : goal.returns-then-code-eq31
+returns-then-code-eq31 c = search laws
+
+pub overflow_cast-result-2 : goal.overflow_cast-result-2
+overflow_cast-result-2 c = search laws
+
+pub returns : goal.returns
+returns c = search laws

@@ -1,0 +1,35 @@
+use Rattle.leb128.proofs.Laws.{sleb_laws as laws}
+use Rattle.std.proofs.Common.{rules, ◌≡◌, ℕ, ◌+◌, ◌-◌, ◌*◌, ◌<◌, ◌≤◌, length, ◌/◌, ◌%◌, Bool, true, false, nat_eq, nat_lt, List, [], ◌∷◌, ◌++◌, slice_index_or, slice_set, bit_and, bit_or, Fits, w8, w32, w64, Bor, MutBor, ℤ, pos, ◌+ℤ◌, ◌-ℤ◌, ◌*ℤ◌, ◌≤ℤ◌, ◌<ℤ◌, FitsSigned, to_z, of_z}
+use Rattle.leb128.specs.Leb.{uleb_at, sleb_at, plus_one_at, weighed_at}
+use Rattle.leb128.specs.Answers.{weighed_outcome, leb_outcome, signed_outcome, plus_one_outcome}
+use Rattle.leb128.proofs.sleb.Goals as goal
+
+pub returns-then-only-lt64 : goal.returns-then-only-lt64
+returns-then-only-lt64 c = search (laws, rules) depth 9
+
+pub returns-then-only-lt128 : goal.returns-then-only-lt128
+returns-then-only-lt128 c = search laws depth 7
+
+pub overflow_mul-value : goal.overflow_mul-value
+overflow_mul-value c = search laws
+
+pub returns-then-value-lt2147483648 : goal.returns-then-value-lt2147483648
+returns-then-value-lt2147483648 c = search laws
+
+pub returns-then-value-scale : goal.returns-then-value-scale
+returns-then-value-scale c = search laws
+
+pub overflow_sub-below : goal.overflow_sub-below
+overflow_sub-below c = search laws
+
+pub overflow_sub-low-then-below-le2147483648 : goal.overflow_sub-low-then-below-le2147483648
+overflow_sub-low-then-below-le2147483648 c = search laws
+
+pub returns-then-below-le2147483648 : goal.returns-then-below-le2147483648
+returns-then-below-le2147483648 c = search laws
+
+pub returns-in-Refused : goal.returns-in-Refused
+returns-in-Refused c = search laws
+
+pub returns-else-below-le2147483648 : goal.returns-else-below-le2147483648
+returns-else-below-le2147483648 c = search laws

@@ -1,0 +1,28 @@
+use Rattle.text.proofs.Laws.{byte_fits}
+use Rattle.text.proofs.Laws.{form_laws as laws}
+use Rattle.text.specs.Text.{three_at}
+use Rattle.std.proofs.Common.{rules, ◌≡◌, ◌+◌, ◌<◌, ◌≤◌, length, ℕ, ◌-◌, ◌*◌, ◌/◌, ◌%◌, Bool, true, false, nat_eq, nat_lt, List, [], ◌∷◌, ◌++◌, slice_index_or, slice_set, bit_and, bit_or, Fits, w8, w32, w64, Bor, MutBor}
+use Rattle.text.specs.Text.{two_at, wide_at, count_at, extent_at}
+use Rattle.text.specs.Singles.{FewSingles}
+use Rattle.text.specs.Answers.{wide_outcome, count_outcome, text_outcome}
+use Rattle.text.proofs.three_at.Goals as goal
+
+pub returns-then-s-p-lt3 : goal.returns-then-s-p-lt3
+unfolding three_at
+returns-then-s-p-lt3 c = search laws
+
+pub returns-then-b-ne2 : goal.returns-then-b-ne2
+unfolding three_at
+returns-then-b-ne2 c = search laws
+
+pub returns-then-c-ne2 : goal.returns-then-c-ne2
+unfolding three_at
+returns-then-c-ne2 c = search laws
+
+pub returns-then-unit-lt2048 : goal.returns-then-unit-lt2048
+unfolding three_at
+returns-then-unit-lt2048 c = search laws
+
+pub returns : goal.returns
+unfolding three_at
+returns c = search laws
