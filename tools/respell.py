@@ -17,6 +17,11 @@ APART = {
         find-string handle-count handler-count handler-pair interface-count line-program looked-up map-count map-entry member-content member-flags opened-within parameter-count
         parameter-set-count proto-at question-by set-count static-count static-field static-value type-name units-content wrong-kind return-type""".split()},
 }
+# .. but in these files nothing else has the plain name.
+ALONE = {
+    'static-count': ('static_count', 'crates/class_walk/', 'crates/promises/proofs/Statics.antt'),
+    'body-of': ('body_of', 'crates/promises/specs/Methods.antt', 'crates/promises/proofs/Methods', 'crates/promises/proofs/Ruled.antt'),
+}
 # What port.py took for the library's.
 BACK = {'own_val': 'own'}
 TOKEN = re.compile(r"[^\s(){}\[\],;.:«»∥⌜⌝\"|`]+")
@@ -81,7 +86,10 @@ def main():
         for path in sorted(paths):
             with open(path, encoding='utf-8') as f:
                 text = f.read()
+            was = dict(new)
+            new.update({n: to[0] for n, to in ALONE.items() if path.startswith(to[1:])})
             after = (turn or (in_proof if os.path.basename(path) == 'Proof.antt' else in_antt))(text)
+            new.update(was)
             if after != text:
                 with open(path, 'w', encoding='utf-8') as f:
                     f.write(after)

@@ -25,7 +25,7 @@ use Rattle.encoded_value.proofs.Exactly.{array_rule_exact}
 use Rattle.annotation_walk.specs.Rules.{DirectoryBelow}
 use Rattle.annotation_walk.proofs.Exactly.{directory_below_exact}
 use Rattle.class_walk.specs.Methods.{body_at, method_below, data_below}
-use Rattle.class_walk.specs.Classes.{ClassBelow, static_count_lem, value_count, fitting, values_at, annotations_at, data_at, statics_at, below, class_below}
+use Rattle.class_walk.specs.Classes.{ClassBelow, static_count, value_count, fitting, values_at, annotations_at, data_at, statics_at, below, class_below}
 use Rattle.class_walk.specs.Rules.{BodyRule, MethodRule, DataBelowRule, ValuesRule, ClassBelowRule}
 
 module _ (s : List ℕ) (f : Frame) where
@@ -82,14 +82,14 @@ module _ (f : List ℕ) (h : Header) (handles n : ℕ) where
   class_below_exact =
       exact_iff (bind_exact _ _ (class_exact f (plain_frame h) h.end h.classes.offset n) (λ c.
       bind_exact _ _ (led_exact f h handles c) (λ b.
-      given_exact (too_many_values (h.classes.offset + 32 * n)) (at_most (value_count b.values) (static_count_lem b.members)) (answer_exact b))))
+      given_exact (too_many_values (h.classes.offset + 32 * n)) (at_most (value_count b.values) (static_count b.members)) (answer_exact b))))
       (λ b p.
       let led = subst (Led f h handles p.0) p.1.1.1.1.1 p.1.1.1.0 in
-      let fits = subst (λ (x : ClassBelow). value_count x.values ≤ static_count_lem x.members) p.1.1.1.1.1 p.1.1.1.1.0 in
+      let fits = subst (λ (x : ClassBelow). value_count x.values ≤ static_count x.members) p.1.1.1.1.1 p.1.1.1.1.0 in
       ruled b p.0 p.1.0 led fits)
       (λ b p. (b.own, (p.own, (b, (record { own = refl; interfaces = p.interfaces; annotations = p.annotations; members = p.members; values = p.values }, (p.fits, refl))))))
     where
-      ruled : (b : ClassBelow) (c : Class) → ClassRule f (plain_frame h) h.end h.classes.offset n c → Led f h handles c b → value_count b.values ≤ static_count_lem b.members → ClassBelowRule f h handles n b
+      ruled : (b : ClassBelow) (c : Class) → ClassRule f (plain_frame h) h.end h.classes.offset n c → Led f h handles c b → value_count b.values ≤ static_count b.members → ClassBelowRule f h handles n b
       ruled b c own led fits = record {
         own = subst (ClassRule f (plain_frame h) h.end h.classes.offset n) led.own own;
         interfaces = subst (λ (x : Class). TypesBelowRule f h x.interfaces b.interfaces) led.own led.interfaces;

@@ -64,7 +64,7 @@ use Rattle.type_list.specs.Below.{types_below}
 use Rattle.class_walk.specs.declared.PassedAnswer.{PassedAnswer}
 use Rattle.class_walk.specs.Answers.{passed_outcome}
 use Rattle.class_walk.specs.Methods.{Body, DataBelow, body_at, method_below, data_below, debug_accepted, methods_pass, both_pass}
-use Rattle.class_walk.specs.Classes.{ClassBelow, static_count_lem, value_count, fitting, number_in, first_number, values_at, annotations_at, data_at, statics_at, below, class_below, below_pass, fit_pass}
+use Rattle.class_walk.specs.Classes.{ClassBelow, static_count, value_count, fitting, number_in, first_number, values_at, annotations_at, data_at, statics_at, below, class_below, below_pass, fit_pass}
 use Rattle.class_walk.specs.Rules.{DataBelowRule, ValuesRule}
 use Rattle.class_walk.proofs.Exactly.{led_exact}
 
@@ -222,7 +222,7 @@ module _ (f : List ℕ) (h : Header) (handles : ℕ) where
       made_kept _ (statics_at f h handles c.values))))
 
   -- ---- no more static values than static fields: class data and an array begin with these counts
-  fields_first : (at : ℕ) {d : Option DataBelow} → Present (DataBelowRule (up_to_end f h) (plain_frame h) at) at d → first_number (up_to_end f h) at ≡ static_count_lem d
+  fields_first : (at : ℕ) {d : Option DataBelow} → Present (DataBelowRule (up_to_end f h) (plain_frame h) at) at d → first_number (up_to_end f h) at ≡ static_count d
   unfolding first_number
   fields_first at (absent e) = sym (first_absent (up_to_end f h) at (omega arith))
   fields_first at (found_there {a = d} l r) =
@@ -237,7 +237,7 @@ module _ (f : List ℕ) (h : Header) (handles : ℕ) where
   unfolding fitting fit_pass given ◌>>=◌
   fit_kept place c b e =
       let led = (led_exact f h handles c).sound b e in
-      go (leb (value_count b.values) (static_count_lem b.members))
+      go (leb (value_count b.values) (static_count b.members))
       ∙ λ i. given (leb (sym (values_first c.values led.values) i) (sym (fields_first c.«data» led.members) i)) (too_many_values place) (answer tt)
     where
       go : (t : Bool) → (given t (too_many_values place) (answer b) >>= accepted) ≡ given t (too_many_values place) (answer tt)

@@ -27,9 +27,9 @@ pub record ClassBelow : Type 0 where
   pub values : Option (List Tree)
 
 -- how many static fields and how many static values a class has: without class data no field, without an array no value
-abbrev pub static_count_lem : Option DataBelow → ℕ
-static_count_lem none = 0
-static_count_lem (some d) = length d.members.statics
+abbrev pub static_count : Option DataBelow → ℕ
+static_count none = 0
+static_count (some d) = length d.members.statics
 
 abbrev pub value_count : Option (List Tree) → ℕ
 value_count none = 0
@@ -37,7 +37,7 @@ value_count (some l) = length l
 
 -- "The format document says the list may not be longer than the static fields; such a file is now refused with a new number 21 at the class record, tested after static values in the class order."
 unfoldable pub fitting : ℕ → ClassBelow → Outcome ClassBelow
-fitting place b = given (leb (value_count b.values) (static_count_lem b.members)) (too_many_values place) (answer b)
+fitting place b = given (leb (value_count b.values) (static_count b.members)) (too_many_values place) (answer b)
 
 -- static values: an array at depth 1
 unfoldable pub values_at : List ℕ → Walk → ℕ → Outcome (List Tree)

@@ -17,7 +17,7 @@ use Rattle.encoded_value.specs.Tree.{Tree}
 use Rattle.encoded_value.specs.Rules.{ArrayRule}
 use Rattle.annotation_walk.specs.Rules.{DirectoryBelow}
 use Rattle.class_walk.specs.Methods.{Body, DataBelow}
-use Rattle.class_walk.specs.Classes.{ClassBelow, static_count_lem, value_count}
+use Rattle.class_walk.specs.Classes.{ClassBelow, static_count, value_count}
 
 module _ (s : List ℕ) (frame : Frame) where
   pub record BodyRule (item : ℕ) (b : Body) : Type 0 where
@@ -46,4 +46,4 @@ pub record ClassBelowRule (f : List ℕ) (header : Header) (handles n : ℕ) (c 
   pub members : Present (DataBelowRule (up_to_end f header) (plain_frame header) c.own.«data») c.own.«data» c.members
   pub values : Present (ValuesRule (up_to_end f header) (walk_of (frame_of header handles) c.own.values) c.own.values) c.own.values c.values
   -- "the list may not be longer than the static fields"
-  pub fits : value_count c.values ≤ static_count_lem c.members
+  pub fits : value_count c.values ≤ static_count c.members

@@ -49,7 +49,7 @@ use Rattle.class_walk.specs.Classes.{ClassBelow}
 use Rattle.class_walk.specs.Rules.{BodyRule, MethodRule, DataBelowRule}
 use Rattle.whole_check.specs.File.{File}
 use Rattle.promises.specs.Reads.{Reads}
-use Rattle.promises.specs.Methods.{bodies_of, data_of, member_of, body_of_lem, code_of, debug_of, linked_try, units_left, Covers, MethodReaders}
+use Rattle.promises.specs.Methods.{bodies_of, data_of, member_of, body_of, code_of, debug_of, linked_try, units_left, Covers, MethodReaders}
 use Rattle.promises.proofs.Tables.{headed, class_at_lem}
 use Rattle.promises.proofs.Picked.{onward_then, onward_same, tested, tested_twice, number_part, number_there, picked_alike, picked_refused}
 use Rattle.promises.proofs.Ruled.{code_ruled}
@@ -104,7 +104,7 @@ module _ (f : List ℕ) {r : File} (reads : Reads f r) {C : Type 0} (c : ℕ) wh
           ap (λ (l : List Member). pick k l >>= λ (x : Member). given (leb 2 (suc (suc (suc (suc n))))) not_there (spot_at r.header x.code) >>= onward then) (no_list (suc (suc (suc (suc n)))) _ _ _ _ [] (omega arith))
           ∙ sym (ap (λ (l : List (Option Body)). pick k l >>= onward g) (no_list (suc (suc (suc (suc n)))) _ _ _ _ [] (omega arith)))
 
-      body_at : (method_spot f c list k >>= onward then) ≡ (body_of_lem r c list k >>= onward g)
+      body_at : (method_spot f c list k >>= onward then) ≡ (body_of r c list k >>= onward g)
       unfolding method_spot method_under
       body_at =
           onward_then (data_spot f c) (method_under f list k) then
@@ -124,7 +124,7 @@ module _ (f : List ℕ) {r : File} (reads : Reads f r) {C : Type 0} (c : ℕ) wh
         → ((at : ℕ) (x : Code) → CodeRule (up_to_end f r.header) (plain_frame r.header) at x → then (record { header = r.header; place = at }) ≡ g x)
         → (method_spot f c list k >>= onward then) ≡ (code_of r c list k >>= onward g)
     unfolding ◌>>=◌ onward
-    code_at_lem then g same = body_at then (λ (b : Body). g b.code) (λ at b rule. same at b.code rule.code) ∙ sym (onward_then (body_of_lem r c list k) (λ (b : Body). answer (some b.code)) g)
+    code_at_lem then g same = body_at then (λ (b : Body). g b.code) (λ at b rule. same at b.code rule.code) ∙ sym (onward_then (body_of r c list k) (λ (b : Body). answer (some b.code)) g)
 
     -- ---- its debug information
     debug_at : (then : Spot → Outcome (Option C)) (g : Debug → Outcome (Option C))
@@ -134,7 +134,7 @@ module _ (f : List ℕ) {r : File} (reads : Reads f r) {C : Type 0} (c : ℕ) wh
     debug_at then g same =
         onward_then (method_spot f c list k) (debug_under f) then
         ∙ body_at (λ (s : Spot). debug_under f s >>= onward then) (λ (b : Body). onward g b.debug) under
-        ∙ sym (onward_then (body_of_lem r c list k) (λ (b : Body). answer b.debug) g)
+        ∙ sym (onward_then (body_of r c list k) (λ (b : Body). answer b.debug) g)
       where
         under : (at : ℕ) (b : Body) → BodyRule (up_to_end f r.header) (plain_frame r.header) at b → (debug_under f (record { header = r.header; place = at }) >>= onward then) ≡ onward g b.debug
         under at b rule =

@@ -34,7 +34,7 @@ use Rattle.class_walk.specs.Rules.{BodyRule, MethodRule, DataBelowRule}
 use Rattle.whole_check.specs.File.{File}
 use Rattle.promises.specs.Reads.{Reads}
 use Rattle.promises.specs.Tables.{listed}
-use Rattle.promises.specs.Methods.{if_any, bodies_of, data_of, member_of, body_of_lem, extent_of}
+use Rattle.promises.specs.Methods.{if_any, bodies_of, data_of, member_of, body_of, extent_of}
 use Rattle.promises.specs.Numbers.{Answers, EachNumber, IfThere, none_or}
 use Rattle.promises.specs.RowsAnswered.{StringAnswered, FieldAnswered, MethodAnswered}
 use Rattle.promises.specs.MethodsAnswered.{debug_in, TryAnswered, HandlerAnswered, NameAnswered, CodeAnswered, BodyAnswered, MemberAnswered, MethodOfClass, DataAnswered}
@@ -106,7 +106,7 @@ program_in (some d) = refl
 module _ (f : List ℕ) {r : File} (reads : Reads f r) (c : ℕ) where
   module _ (list k : ℕ) where
     -- ---- below a code offset
-    module _ {b : Body} (body_is : body_of_lem r c list k ≡ answer (some b)) {at : ℕ} (rule : BodyRule (up_to_end f r.header) (plain_frame r.header) at b) (low : BodyIndices r b) where
+    module _ {b : Body} (body_is : body_of r c list k ≡ answer (some b)) {at : ℕ} (rule : BodyRule (up_to_end f r.header) (plain_frame r.header) at b) (low : BodyIndices r b) where
       try_answered : (t : ℕ) (a : Try) → At b.code.tries t a → TryAnswered f r c list k b.code t a
       try_answered t a m =
           let methods = methods_agree f reads in
@@ -155,7 +155,7 @@ module _ (f : List ℕ) {r : File} (reads : Reads f r) (c : ℕ) where
           }
 
     -- ---- a body that may be absent
-    body_answered : (at : ℕ) (o : Option Body) → body_of_lem r c list k ≡ answer o → Present (BodyRule (up_to_end f r.header) (plain_frame r.header) at) at o → IfThere (BodyIndices r) o
+    body_answered : (at : ℕ) (o : Option Body) → body_of r c list k ≡ answer o → Present (BodyRule (up_to_end f r.header) (plain_frame r.header) at) at o → IfThere (BodyIndices r) o
         → BodyAnswered f r c list k at o
     body_answered at o e rule low =
         let methods = methods_agree f reads in
@@ -179,7 +179,7 @@ module _ (f : List ℕ) {r : File} (reads : Reads f r) (c : ℕ) where
     member_is : (list k : ℕ) {m : Member} → At (list_of list d.members) k m → member_of r c list k ≡ answer (some m)
     member_is list k n = if_some _ _ data_is (pick_there n)
 
-    body_there : (list k : ℕ) {o : Option Body} → At (bodies_of list d) k o → body_of_lem r c list k ≡ answer o
+    body_there : (list k : ℕ) {o : Option Body} → At (bodies_of list d) k o → body_of r c list k ≡ answer o
     unfolding onward
     body_there list k n = bind_answer _ data_is ∙ pick_there n
 

@@ -19,7 +19,7 @@ use Rattle.class_walk.specs.Classes.{ClassBelow}
 use Rattle.class_walk.specs.Rules.{BodyRule, MethodRule, DataBelowRule}
 use Rattle.whole_check.specs.File.{File}
 use Rattle.promises.specs.Reads.{Reads}
-use Rattle.promises.specs.Methods.{bodies_of, data_of, body_of_lem, code_of}
+use Rattle.promises.specs.Methods.{bodies_of, data_of, body_of, code_of}
 use Rattle.promises.specs.Numbers.{IfThere}
 use Rattle.promises.proofs.Asked.{made_same}
 use Rattle.promises.proofs.InRange.{All}
@@ -71,7 +71,7 @@ module _ (f : List ℕ) {r : File} (reads : Reads f r) (c : ℕ) where
 
   pub code_ruled : (list k : ℕ) {x : Code} → code_of r c list k ≡ answer (some x) → CodeRuled x
   unfolding ◌>>=◌
-  code_ruled list k e = subst (Sure CodeRuled) e (sure_onward BodyRuled CodeRuled (body_of_lem r c list k) _ body_ruled (λ b q. (q.0, q.1.code)))
+  code_ruled list k e = subst (Sure CodeRuled) e (sure_onward BodyRuled CodeRuled (body_of r c list k) _ body_ruled (λ b q. (q.0, q.1.code)))
     where
-      body_ruled : Sure BodyRuled (body_of_lem r c list k)
+      body_ruled : Sure BodyRuled (body_of r c list k)
       body_ruled = sure_onward DataRuled BodyRuled (data_of r c) _ data_ruled (λ d q. subst (Sure BodyRuled) (made_same (pick k (bodies_of list d))) (sure_pick BodyRuled (bodies_of list d) k (λ (o : Option Body). answer o) (list_ruled list d q)))

@@ -33,7 +33,7 @@ use Rattle.static_fields.proofs.TextLaws.{bind_parts}
 use Rattle.static_fields.proofs.Exactly.{text_exact, fields_exact, stored_exact}
 use Rattle.class_readers.specs.Spots.{onward}
 use Rattle.class_walk.specs.Methods.{DataBelow}
-use Rattle.class_walk.specs.Classes.{ClassBelow, static_count_lem, value_count}
+use Rattle.class_walk.specs.Classes.{ClassBelow, static_count, value_count}
 use Rattle.class_walk.specs.Rules.{DataBelowRule, ValuesRule, ClassBelowRule}
 use Rattle.whole_check.specs.File.{File}
 use Rattle.promises.specs.Reads.{Reads}
@@ -153,7 +153,7 @@ module _ (f : List ℕ) {r : File} (reads : Reads f r) where
   value_counted none = refl
   value_counted (some l) = refl
 
-  field_counted : (o : Option DataBelow) → static_count_lem o ≡ length (fields_of o)
+  field_counted : (o : Option DataBelow) → static_count o ≡ length (fields_of o)
   field_counted none = refl
   field_counted (some d) = refl
 

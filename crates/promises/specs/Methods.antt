@@ -41,14 +41,14 @@ module _ (r : File) (c : ℕ) where
     abbrev pub member_of : Outcome (Option Member)
     member_of = if_any data_of (λ d. pick k (list_of list d.members))
 
-    abbrev pub body_of_lem : Outcome (Option Body)
-    body_of_lem = data_of >>= onward (λ (d : DataBelow). pick k (bodies_of list d))
+    abbrev pub body_of : Outcome (Option Body)
+    body_of = data_of >>= onward (λ (d : DataBelow). pick k (bodies_of list d))
 
     abbrev pub code_of : Outcome (Option Code)
-    code_of = if_any body_of_lem (λ b. answer b.code)
+    code_of = if_any body_of (λ b. answer b.code)
 
     abbrev pub debug_of : Outcome (Option Debug)
-    debug_of = body_of_lem >>= onward (λ (b : Body). answer b.debug)
+    debug_of = body_of >>= onward (λ (b : Body). answer b.debug)
 
 -- try t, with the number of its handler
 abbrev pub linked_try : ℕ → Code → Outcome Linked

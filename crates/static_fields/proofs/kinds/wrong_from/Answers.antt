@@ -1,0 +1,31 @@
+use Rattle.static_fields.proofs.KindLaws.{Seeking, seeking as laws}
+use Rattle.std.proofs.Common.{rules, ◌≡◌, ℕ, ◌+◌, ◌-◌, ◌*◌, ◌<◌, ◌≤◌, length, ◌/◌, ◌%◌, Bool, true, false, nat_eq, nat_lt, List, [], ◌∷◌, ◌++◌, slice_index_or, slice_set, bit_and, bit_or, Fits, w8, w32, w64, Bor, MutBor}
+use Rattle.header.specs.Header.{plain_frame}
+use Rattle.class_members.specs.Members.{begin}
+use Rattle.class_data.specs.Data.{fields_judge}
+use Rattle.value_readers.specs.Opening.{walk_in}
+use Rattle.static_fields.specs.Pairing.{wrong_under, wrong_in, wrong_kind}
+use Rattle.static_fields.specs.Stages.{fields_begin, values_begin, fields_from, values_from, kind_at, fits_at, wrong_from}
+use Rattle.static_fields.specs.Answers.{maybe_wrong, begin_outcome, kind_outcome, fits_next_outcome}
+use Rattle.static_fields.proofs.kinds.wrong_from.Goals as goal
+
+pub loop-left-init : goal.loop-left-init
+loop-left-init c = search laws
+
+pub returns-in-Refused : goal.returns-in-Refused
+returns-in-Refused c = search laws
+
+pub returns-in-Refused-fits_at : goal.returns-in-Refused-fits_at
+returns-in-Refused-fits_at c = search laws
+
+pub returns-else-fits : goal.returns-else-fits
+returns-else-fits c = search laws
+
+pub overflow_add-k : goal.overflow_add-k
+overflow_add-k c = search laws
+
+pub loop-left-preserved : goal.loop-left-preserved
+loop-left-preserved c = search laws
+
+pub returns : goal.returns
+returns c = search laws
