@@ -1,7 +1,7 @@
 #!/usr/bin/env python3
 """docs/layers.py [--check]: the layers of crates.txt, drawn.
 
-crates.txt has the crates under headings, '# ---- NAME: what', lowest first. This fails where a crate names one of a higher layer, one further down in its own layer, or one
+crates.txt has the crates under headings, '# ---- NAME: what', lowest first; behind a crate's name words may stand that say what it is, as staticlib. This fails where a crate names one of a higher layer, one further down in its own layer, or one
 that is not there, and writes docs/layers.svg, the picture in README.md; with --check it writes nothing, and fails where the picture would be another."""
 import os
 import re
@@ -20,7 +20,7 @@ def read():
             layers.append((head[1], head[2], []))
         elif ':' in line.split('#')[0]:
             name, deps = line.split('#')[0].split(':')
-            layers[-1][2].append((name.strip(), deps.split()))
+            layers[-1][2].append((name.split()[0], deps.split()))
     return layers
 
 

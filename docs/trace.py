@@ -9,7 +9,7 @@ It fails, and names each of these:
 - a sentence of document 01 that no row quotes. A row of a table and a block of code are sentences, headings are not. The cells of a row are joined by ': ';
 - a quote that is the beginning of no sentence, or of several. In the first column each quote stands in double quotes and begins where its sentence does; '..' leaves something out. Quotation marks and backticks count for nothing. Rows that begin with
   'demand' quote another paper, and are not looked up;
-- a name that is not there. In the columns 'definition' and 'contract or theorem' a crate's name, or a crate's name and a file such as specs/Rules, stands in front of the first of its names: leb128 specs/Leb `ulebAt`, `slebAt`. Each is a declaration of that crate (of
+- a name that is not there. In the columns 'definition' and 'contract or theorem' a crate's name, or a crate's name and a file such as specs/Rules, stands in front of the first of its names: leb128 specs/Leb `uleb_at`, `sleb_at`. Each is a declaration of that crate (of
   that file): of specs/, of proofs/, or a function, type or constant of src/. `T .x` is the field x of T, `f 5` is f, and `crate::f` is a function. In the column 'test' a crate stands in front of its labels, which are those of its stdout, or files of its data/. In the
   last column a crate stands in front of its edits, which are files of must-fail/ or wrong/. Paths such as docs/LOOSE.md are looked for too;
 - a row that says nothing but its sentence, or that has more or fewer columns than its table;
@@ -21,6 +21,8 @@ import re
 import sys
 
 CRATES = {os.path.basename(os.path.dirname(p)) for p in glob.glob('crates/*/src')}
+# What a function's proof declares are Rattle's own names.
+FUNCTION_PROOF = re.compile(r'/proofs/.+/(?:Answers|Invariants|Proof)\.antt$')
 PATH = re.compile(r'\b(?:docs|compare|vectors|include|crates|tools)/[\w./-]*\w|\b(?:README|CONTRIBUTING)\.md')
 NAMES = re.compile(r'(?:(?<![\w:/`])(?P<crate>[a-z]\w*) )?(?:(?P<file>(?:specs|proofs)/\w+) )?`(?P<name>[^`]+)`')
 
@@ -80,8 +82,8 @@ def declared(crate, cache={}):
     """The names that a crate declares: name -> the files in which it does."""
     if crate not in cache:
         names = cache[crate] = {}
-        for path in glob.glob(f'crates/{crate}/**/*.antt', recursive=True) + glob.glob(f'crates/{crate}/**/*.rt', recursive=True):
-            if path.endswith('/Proof.antt'):
+        for path in (p for part in ('src/**/*.rt', 'specs/**/*.antt', 'proofs/**/*.antt') for p in glob.glob(f'crates/{crate}/{part}', recursive=True)):
+            if FUNCTION_PROOF.search(path):
                 continue
             for line in open(path):
                 if path.endswith('.rt'):

@@ -46,7 +46,7 @@ def declared():
 def exported():
     """The exported functions with their parameters and their contracts, as they are written."""
     code = text('crates/dralovika/src/*.rt')
-    found = re.findall(r'#\[no_mangle\]\npub extern "C" fn dralovika_(\w+)\((.*?)\)\n(    ensures.*?)\n\{', code, re.S)
+    found = re.findall(r'#\[unsafe\(no_mangle\)\]\npub extern "C" fn dralovika_(\w+)\((.*?)\)\n(    ensures.*?)\n\{', code, re.S)
     if len(found) != code.count('no_mangle') or len(found) != code.count('extern "C"'):
         sys.exit('an exported function is not understood')
     return {name: (parameters, contract) for name, parameters, contract in found}
@@ -96,22 +96,22 @@ SHARED = {'number': ['number'], 'option': ['number'], 'value': ['value'], 'eleme
 def words_of(name):
     """What the code calls the words of an answer, in their order."""
     specs = text('crates/answer_rows/specs/Words.antt')
-    body = one(rf'^{name}-words [^=\n]*=\s(.*?)\n(?:\n|\Z)', specs).strip()
-    other = re.match(r'(\w+)-words ', body)
+    body = one(rf'^{name}_words [^=\n]*=\s(.*?)\n(?:\n|\Z)', specs).strip()
+    other = re.match(r'(\w+)_words ', body)
     if other:
         return words_of(other[1])
     items = [item.strip() for item in body.split('∷')]
     if items.pop() != '[]':
-        sys.exit(f'{name}-words is not understood')
+        sys.exit(f'{name}_words is not understood')
     return [word_of(item) for item in items]
 
 
 def word_of(item):
-    """`h .strings .count` is strings_count, `o .head .units` units."""
-    if item.startswith(('first-word', 'second-word')):
-        return item.split()[0].replace('-', '_')
-    path = re.findall(r'[\w-]+', item.replace('option-word', '').replace('truth-word', ''))
-    inner = [p.replace('-', '_') for p in path[1:] if p not in ('head', 'attempt')]
+    """`h.strings.count` is strings_count, `o.head.units` units."""
+    if item.startswith(('first_word', 'second_word')):
+        return item.split()[0]
+    path = re.findall(r'\w+', item.replace('option_word', '').replace('truth_word', ''))
+    inner = [p for p in path[1:] if p not in ('head', 'attempt')]
     return '_'.join(inner) if inner else path[0]
 
 
@@ -124,7 +124,7 @@ def names_of(word):
 def words():
     wrong, used = [], {'status', 'refused'}
     for function, (_, contract) in exported().items():
-        name = one(r'told(?:-if)? (\w+)-words', contract)
+        name = one(r'told(?:_if)? (\w+)_words', contract)
         tags = [function] if f'{function}_words' in enums else SHARED.get(name)
         if tags is None:
             wrong.append(f'dralovika_{function}: no enum dralovika_{function}_words')
@@ -136,11 +136,11 @@ def words():
             if position not in here or position not in there or not any(here[position].endswith('_' + end) for end in names_of(there[position])):
                 wrong.append(f'dralovika_{function}, word {position}: the header has {here.get(position)}, the code {there.get(position)}')
     wrong += [f'enum dralovika_{tag} is of no function' for tag in enums if tag.endswith('_words') and tag[:-6] not in used]
-    row = one(r'^refusal-row r = row \((.*?)\)$', text('crates/answer_rows/specs/Words.antt'))
+    row = one(r'^refusal_row r = row \((.*?)\)$', text('crates/answer_rows/specs/Words.antt'))
     number, *rest = (item.strip() for item in row.split('∷'))
     wrong += differences('word', enums['refused_words'], {f'DRALOVIKA_REFUSED_{word_of(item).upper()}': n for n, item in enumerate(rest[:-1], 1)})
     says = text('crates/answer_rows/specs/Words.antt')
-    answer, none = one(r'^told words \(answer a\) = row \((\d+) ∷', says), one(r'^told-if words \(answer none\) = row \((\d+) ∷', says)
+    answer, none = one(r'^told words \(answer a\) = row \((\d+) ∷', says), one(r'^told_if words \(answer none\) = row \((\d+) ∷', says)
     wrong += differences('status', enums['status'], {'DRALOVIKA_ANSWER': int(answer), 'DRALOVIKA_NONE': int(none), 'DRALOVIKA_REFUSED': int(number)})
     return wrong + differences('word', enums['status_words'], {'DRALOVIKA_STATUS': 0})
 
@@ -172,9 +172,9 @@ def refusals():
 def constants():
     code = {
         'DRALOVIKA_WORDS': one(r'^row ws = padded (\d+) ws$', text('crates/answer_rows/specs/Words.antt')),
-        'DRALOVIKA_FLAGS_ROOM': one(r'^flag-bits = (\d+)$', text('crates/access_flags/specs/Flags.antt')),
+        'DRALOVIKA_FLAGS_ROOM': one(r'^flag_bits = (\d+)$', text('crates/access_flags/specs/Flags.antt')),
         'DRALOVIKA_LONGEST': one(r'if (\d+) < f\.len\(\)', text('crates/header/src/lib.rt')),
-        'DRALOVIKA_NOTHING': {str(2**64 - 1): 'UINT64_MAX'}.get(one(r'^no-number = (\d+)$', text('crates/answer_rows/specs/Words.antt'))),
+        'DRALOVIKA_NOTHING': {str(2**64 - 1): 'UINT64_MAX'}.get(one(r'^no_number = (\d+)$', text('crates/answer_rows/specs/Words.antt'))),
         'DRALOVIKA_VERSION': '"' + '.'.join(macros['DRALOVIKA_VERSION_' + part] for part in ('MAJOR', 'MINOR', 'PATCH')) + '"',
     }
     wrong = differences('constant', {name: macros.get(name) for name in code}, code)
