@@ -1,7 +1,4 @@
 use Rattle.access_flags.proofs.Laws.{Counting}
-use Rattle.std.proofs.Common.{◌≡◌, ◌≤◌, length, ℕ, ◌+◌, ◌-◌, ◌*◌, ◌<◌}
-use Rattle.access_flags.specs.Flags.{kept, flags, filled, written, content}
-use Rattle.access_flags.specs.Answers.{flags_outcome}
 use Rattle.access_flags.proofs.count_of.Given as goal
 
 abbrev pub invariant-loop-left : goal.invariant-loop-left

@@ -1,8 +1,4 @@
 use Rattle.annotation_items.proofs.Laws.{laws}
-use Rattle.std.proofs.Common.{rules, ◌≡◌, ℕ, ◌+◌, ◌-◌, ◌*◌, ◌<◌, ◌≤◌, length, ◌/◌, ◌%◌, Bool, true, false, nat_eq, nat_lt, List, [], ◌∷◌, ◌++◌, slice_index_or, slice_set, bit_and, bit_or, Fits, w8, w32, w64, Bor, MutBor}
-use Rattle.value_bodies.specs.Answers.{element_outcome}
-use Rattle.annotation_items.specs.Items.{visibility_at, item_visibility, item_summary, item_element}
-use Rattle.annotation_items.specs.Answers.{visibility_outcome, summary_outcome}
 use Rattle.annotation_items.proofs.annotation_item.Goals as goal
 
 pub overflow_add-item : goal.overflow_add-item

@@ -1,8 +1,4 @@
 use Rattle.annotation_lists.proofs.Laws.{count_laws as laws}
-use Rattle.std.proofs.Common.{rules, ◌≡◌, true, false, ◌+◌, ◌*◌, ◌≤◌, length, ℕ, ◌-◌, ◌<◌, ◌/◌, ◌%◌, Bool, nat_eq, nat_lt, List, [], ◌∷◌, ◌++◌, slice_index_or, slice_set, bit_and, bit_or, Fits, w8, w32, w64, Bor, MutBor}
-use Rattle.annotation_lists.specs.Offsets.{offset_allowed, word_at, offset_at, offsets_pass, offset_count, offset_number}
-use Rattle.refusal.specs.Answers.{checked_outcome}
-use Rattle.annotation_lists.specs.Answers.{word_outcome}
 use Rattle.annotation_lists.proofs.offset_count.Goals as goal
 
 pub overflow_add-item : goal.overflow_add-item

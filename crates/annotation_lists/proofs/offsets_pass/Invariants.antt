@@ -1,9 +1,5 @@
 use Rattle.annotation_lists.specs.Offsets.{offset_at}
 use Rattle.annotation_lists.proofs.Fixed.{Along}
-use Rattle.std.proofs.Common.{◌≡◌, true, false, ◌+◌, ◌*◌, ◌≤◌, length, ℕ, ◌-◌, ◌<◌}
-use Rattle.annotation_lists.specs.Offsets.{offset_allowed, word_at, offsets_pass, offset_count, offset_number}
-use Rattle.refusal.specs.Answers.{checked_outcome}
-use Rattle.annotation_lists.specs.Answers.{word_outcome}
 use Rattle.annotation_lists.proofs.offsets_pass.Given as goal
 
 abbrev pub invariant-loop-left : goal.invariant-loop-left

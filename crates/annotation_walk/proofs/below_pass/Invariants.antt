@@ -1,8 +1,5 @@
 use Rattle.annotation_walk.specs.Below.{one_from}
 use Rattle.annotation_lists.proofs.Fixed.{Along}
-use Rattle.std.proofs.Common.{◌≡◌, true, false, ◌+◌, ◌*◌, ◌≤◌, length, ℕ, ◌-◌, ◌<◌}
-use Rattle.refusal.specs.Answers.{checked_outcome}
-use Rattle.annotation_walk.specs.Below.{set_accepted, references_accepted, directory_accepted, items_pass, own_accepted, sets_pass, one_below, below_pass, lists_below}
 use Rattle.annotation_walk.proofs.below_pass.Given as goal
 
 abbrev pub invariant-loop-left : goal.invariant-loop-left

@@ -1,8 +1,5 @@
 use Rattle.class_ids.proofs.Laws.{own_laws as laws}
 use Rattle.class_ids.specs.Classes.{first_of}
-use Rattle.std.proofs.Common.{rules, ◌≡◌, ℕ, ◌+◌, ◌-◌, ◌*◌, ◌<◌, ◌≤◌, length, ◌/◌, ◌%◌, Bool, true, false, nat_eq, nat_lt, List, [], ◌∷◌, ◌++◌, slice_index_or, slice_set, bit_and, bit_or, Fits, w8, w32, w64, Bor, MutBor}
-use Rattle.class_ids.specs.Classes.{index_or_none, maybe_of, words_at, middle_of, places_of, class_of, class_at}
-use Rattle.class_ids.specs.Answers.{class_outcome}
 use Rattle.class_ids.proofs.first_of.Goals as goal
 
 pub returns-then-frame-w : goal.returns-then-frame-w

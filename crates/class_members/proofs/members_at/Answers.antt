@@ -1,8 +1,4 @@
-use Rattle.class_members.proofs.Laws.{Members, loop_laws as laws}
-use Rattle.std.proofs.Common.{rules, ◌≡◌, cond, ℕ, ◌+◌, ◌-◌, ◌*◌, ◌<◌, ◌≤◌, length, ◌/◌, ◌%◌, Bool, true, false, nat_eq, nat_lt, List, [], ◌∷◌, ◌++◌, slice_index_or, slice_set, bit_and, bit_or, Fits, w8, w32, w64, Bor, MutBor}
-use Rattle.leb128.specs.Answers.{leb_outcome}
-use Rattle.class_members.specs.Members.{apart, offset_at, code_at, rest_at, member_at, kept_members}
-use Rattle.class_members.specs.Answers.{found_outcome}
+use Rattle.class_members.proofs.Laws.{loop_laws as laws}
 use Rattle.class_members.proofs.members_at.Goals as goal
 
 pub loop-left-init : goal.loop-left-init

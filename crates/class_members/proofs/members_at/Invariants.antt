@@ -1,8 +1,4 @@
 use Rattle.class_members.proofs.Laws.{Members}
-use Rattle.std.proofs.Common.{◌≡◌, cond, ℕ, ◌+◌, ◌-◌, ◌*◌, ◌<◌, ◌≤◌, length}
-use Rattle.leb128.specs.Answers.{leb_outcome}
-use Rattle.class_members.specs.Members.{apart, offset_at, code_at, rest_at, member_at, kept_members}
-use Rattle.class_members.specs.Answers.{found_outcome}
 use Rattle.class_members.proofs.members_at.Given as goal
 
 abbrev pub invariant-loop-left : goal.invariant-loop-left

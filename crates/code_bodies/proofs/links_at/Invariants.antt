@@ -1,9 +1,5 @@
 use mathlib.Core.Path.{◌≡◌}
 use Rattle.code_bodies.proofs.Laws.{Linking, Starting}
-use Rattle.std.proofs.Common.{cond, ◌+◌, ◌*◌, ◌≤◌, length, ℕ, ◌-◌, ◌<◌}
-use Rattle.code_bodies.specs.Tries.{try_at, try_allowed, kept_try, kept_link}
-use Rattle.code_bodies.specs.Code.{linked_stage, listed_stage, parts_stage, body_stage, kept_code_at}
-use Rattle.code_bodies.specs.Answers.{try_found, link_outcome, kept_code_outcome}
 use Rattle.code_bodies.proofs.links_at.Given as goal
 
 abbrev pub invariant-loop-unseen : goal.invariant-loop-unseen

@@ -1,7 +1,4 @@
 use Rattle.code_heads.proofs.Laws.{head_laws as laws}
-use Rattle.std.proofs.Common.{rules, ◌≡◌, ℕ, ◌+◌, ◌-◌, ◌*◌, ◌<◌, ◌≤◌, length, ◌/◌, ◌%◌, Bool, true, false, nat_eq, nat_lt, List, [], ◌∷◌, ◌++◌, slice_index_or, slice_set, bit_and, bit_or, Fits, w8, w32, w64, Bor, MutBor}
-use Rattle.code_heads.specs.Heads.{code_head_at, padding, body_size}
-use Rattle.code_heads.specs.Answers.{code_head_outcome}
 use Rattle.code_heads.proofs.head_at.Goals as goal
 
 pub returns-then-s-item : goal.returns-then-s-item

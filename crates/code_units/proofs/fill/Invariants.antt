@@ -1,7 +1,4 @@
 use Rattle.code_units.proofs.Laws.{Filling}
-use Rattle.std.proofs.Common.{◌≡◌, ◌+◌, ◌*◌, ◌≤◌, length, ℕ, ◌-◌, ◌<◌}
-use Rattle.code_units.specs.Units.{units_at, filled, into_at, left_at}
-use Rattle.code_units.specs.Answers.{units_outcome}
 use Rattle.code_units.proofs.fill.Given as goal
 
 abbrev pub invariant-loop-left : goal.invariant-loop-left

@@ -1,7 +1,4 @@
 use Rattle.code_units.proofs.Laws.{into_laws as laws}
-use Rattle.std.proofs.Common.{rules, ◌≡◌, ◌+◌, ◌*◌, ◌≤◌, length, ℕ, ◌-◌, ◌<◌, ◌/◌, ◌%◌, Bool, true, false, nat_eq, nat_lt, List, [], ◌∷◌, ◌++◌, slice_index_or, slice_set, bit_and, bit_or, Fits, w8, w32, w64, Bor, MutBor}
-use Rattle.code_units.specs.Units.{units_at, filled, into_at, left_at}
-use Rattle.code_units.specs.Answers.{units_outcome}
 use Rattle.code_units.proofs.units_into.Goals as goal
 
 pub returns-then-s-start-clause-answer : goal.returns-then-s-start-clause-answer

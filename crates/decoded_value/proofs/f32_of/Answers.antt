@@ -1,15 +1,6 @@
 use lib.Ieee.{binary32}
-use mathlib.Core.Logic.{⊎_elim}
-use borrow.Author.Rules.{rules}
 use Rattle.decoded_value.proofs.Floats.{nan_of, number_exponent, number_digits}
-use Rattle.std.proofs.Common.{◌≡◌, ◌+◌, ◌*◌, ◌^◌, ◌%◌, ◌/◌, ◌≤◌, ◌<◌, length, pos, negsuc, ℕ, ◌-◌, Bool, true, false, nat_eq, nat_lt, List, [], ◌∷◌, ◌++◌, slice_index_or, slice_set, bit_and, bit_or, Fits, w8, w32, w64, Bor, MutBor}
-use Rattle.std.specs.Float.Ieee.{of_bits}
-use Rattle.std.specs.Float.{binary64}
-use Rattle.value_heads.specs.Numbers.{signed, raised}
-use Rattle.encoded_value.specs.Tree.{byte, short, int, long, float, double, rest_of, plain_of}
-use Rattle.decoded_value.specs.Shown.{shown, value_shown}
-use Rattle.decoded_value.specs.Sizes.{Sized, Fitting}
-use Rattle.decoded_value.specs.Readings.{decoded_at, decoded_array, decoded_annotation, decoded_outcome}
+use Rattle.std.proofs.Common.{true, false}
 use Rattle.decoded_value.proofs.f32_of.Goals as goal
 use Rattle.decoded_value.proofs.f32_of.Goals.{then-bits-eq255+else-bits-ne0, else-bits-eq255}
 
@@ -20,6 +11,6 @@ returns-then-bits-ne0 c = nan_of binary32 c.args.bits c.if-bits-eq255.true c.if-
 pub float_from_bits-result : goal.float_from_bits-result
 float_from_bits-result c =
     elim c.if-bits-eq255.branch [
-      then-bits-eq255+else-bits-ne0 w ↦ number_digits binary32 c.args.bits w.if-bits-ne0.false
-    | else-bits-eq255 w ↦ number_exponent binary32 c.args.bits w.if-bits-eq255.false
+      | then-bits-eq255+else-bits-ne0 w ↦ number_digits binary32 c.args.bits w.if-bits-ne0.false
+      | else-bits-eq255 w ↦ number_exponent binary32 c.args.bits w.if-bits-eq255.false
     ]

@@ -1,6 +1,4 @@
 use Rattle.frame.proofs.Laws.{laws}
-use Rattle.std.proofs.Common.{rules, ◌≡◌, ℕ, ◌+◌, ◌-◌, ◌*◌, ◌<◌, ◌≤◌, length, ◌/◌, ◌%◌, Bool, true, false, nat_eq, nat_lt, List, [], ◌∷◌, ◌++◌, slice_index_or, slice_set, bit_and, bit_or, Fits, w8, w32, w64, Bor, MutBor}
-use Rattle.frame.specs.Offsets.{allowed, allowed_or_absent}
 use Rattle.frame.proofs.is_allowed_or_absent.Goals as goal
 
 pub returns-then-offset-eq0 : goal.returns-then-offset-eq0

@@ -1,8 +1,4 @@
 use Rattle.handlers.proofs.Laws.{Listing}
-use Rattle.std.proofs.Common.{◌≡◌, cond, ◌-◌, ℕ, ◌+◌, ◌*◌, ◌<◌, ◌≤◌, length}
-use Rattle.leb128.specs.Answers.{leb_outcome}
-use Rattle.handlers.specs.Handlers.{catches, address_at, pair_at, kept_pairs, all_at, rest_at, kept_handler, kept_list, kept_handlers_at}
-use Rattle.handlers.specs.Answers.{pair_outcome, all_outcome, brief_outcome, list_outcome}
 use Rattle.handlers.proofs.list_found.Given as goal
 
 abbrev pub invariant-loop-left : goal.invariant-loop-left

@@ -1,8 +1,5 @@
 use Rattle.leb128.proofs.Laws.{plus_one_laws as laws}
 use Rattle.leb128.specs.Leb.{plus_one_at}
-use Rattle.std.proofs.Common.{rules, ◌≡◌, ℕ, ◌+◌, ◌-◌, ◌*◌, ◌<◌, ◌≤◌, length, ◌/◌, ◌%◌, Bool, true, false, nat_eq, nat_lt, List, [], ◌∷◌, ◌++◌, slice_index_or, slice_set, bit_and, bit_or, Fits, w8, w32, w64, Bor, MutBor}
-use Rattle.leb128.specs.Leb.{uleb_at, sleb_at, weighed_at}
-use Rattle.leb128.specs.Answers.{weighed_outcome, leb_outcome, signed_outcome, plus_one_outcome}
 use Rattle.leb128.proofs.uleb_p1.Goals as goal
 
 pub returns-then-value-gt0 : goal.returns-then-value-gt0

@@ -1,10 +1,6 @@
 use Rattle.map_list.proofs.Laws.{Scanning}
 use lib.ListN.{length}
 use mathlib.Core.Path.{◌≡◌}
-use Rattle.std.proofs.Common.{◌+◌, ◌*◌, ◌≤◌, ℕ, ◌-◌, ◌<◌}
-use Rattle.map_list.specs.Codes.{map_code_number}
-use Rattle.map_list.specs.Map.{entry_at, entry_number, handles_allowed, entry_allowed, next_allowed, handles_of, scan_at, kept_list_at, kept_at}
-use Rattle.map_list.specs.Answers.{handles_outcome, map_outcome}
 use Rattle.map_list.proofs.scan.Given as goal
 
 abbrev pub invariant-loop-left : goal.invariant-loop-left

@@ -1,13 +1,5 @@
-use Rattle.string_ids.proofs.Laws.{Looking, number_fits, looking_next, looking as laws}
-use Rattle.std.proofs.Common.{rules, ◌≡◌, ℕ, ◌+◌, ◌-◌, ◌*◌, ◌<◌, ◌≤◌, length, ◌/◌, ◌%◌, Bool, true, false, nat_eq, nat_lt, List, [], ◌∷◌, ◌++◌, slice_index_or, slice_set, bit_and, bit_or, Fits, w8, w32, w64, Bor, MutBor}
-use Rattle.text.specs.Answers.{text_outcome}
-use Rattle.string_ids.specs.Strings.{string_place, record_at, string_extent, less_bytes, strings_checked, looked_up}
-use Rattle.refusal.specs.Rows.{follows}
-use Rattle.refusal.specs.Answers.{checked_outcome}
-use Rattle.refusal.specs.Seek.{or_this}
-use Rattle.word.specs.Bytes.{part}
-use Rattle.text_order.specs.Order.{by_key, is_equal}
-use Rattle.string_ids.specs.Answers.{item_outcome, last_bytes, lookup_outcome, found_number}
+use Rattle.string_ids.proofs.Laws.{number_fits, looking as laws}
+use Rattle.std.proofs.Common.{true}
 use Rattle.string_ids.proofs.look_up.Goals as goal
 
 pub loop-left-init : goal.loop-left-init

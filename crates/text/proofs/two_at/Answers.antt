@@ -1,10 +1,5 @@
-use Rattle.text.proofs.Laws.{byte_fits}
 use Rattle.text.proofs.Laws.{form_laws as laws}
 use Rattle.text.specs.Text.{two_at}
-use Rattle.std.proofs.Common.{rules, ◌≡◌, ◌+◌, ◌<◌, ◌≤◌, length, ℕ, ◌-◌, ◌*◌, ◌/◌, ◌%◌, Bool, true, false, nat_eq, nat_lt, List, [], ◌∷◌, ◌++◌, slice_index_or, slice_set, bit_and, bit_or, Fits, w8, w32, w64, Bor, MutBor}
-use Rattle.text.specs.Text.{three_at, wide_at, count_at, extent_at}
-use Rattle.text.specs.Singles.{FewSingles}
-use Rattle.text.specs.Answers.{wide_outcome, count_outcome, text_outcome}
 use Rattle.text.proofs.two_at.Goals as goal
 
 pub returns-then-s-p-lt2 : goal.returns-then-s-p-lt2

@@ -1,8 +1,4 @@
-use Prim.Native.Nat.{◌-◌}
-use lib.ListN.{length}
-use Rattle.text_order.proofs.Comparing.{Comparing, laws}
-use Rattle.std.proofs.Common.{rules, ◌≡◌, ℕ, ◌+◌, ◌*◌, ◌<◌, ◌≤◌, ◌/◌, ◌%◌, Bool, true, false, nat_eq, nat_lt, List, [], ◌∷◌, ◌++◌, slice_index_or, slice_set, bit_and, bit_or, Fits, w8, w32, w64, Bor, MutBor}
-use Rattle.text_order.specs.Order.{key, earlier, by_key}
+use Rattle.text_order.proofs.Comparing.{laws}
 use Rattle.text_order.proofs.compare.Goals as goal
 
 pub loop-i-init : goal.loop-i-init

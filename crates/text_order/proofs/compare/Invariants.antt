@@ -1,8 +1,6 @@
 use Prim.Native.Nat.{◌-◌}
 use lib.ListN.{length}
 use Rattle.text_order.proofs.Comparing.{Comparing}
-use Rattle.std.proofs.Common.{◌≡◌, ℕ, ◌+◌, ◌*◌, ◌<◌, ◌≤◌}
-use Rattle.text_order.specs.Order.{key, earlier, by_key}
 use Rattle.text_order.proofs.compare.Given as goal
 
 abbrev pub invariant-loop-i : goal.invariant-loop-i

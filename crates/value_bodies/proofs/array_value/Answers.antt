@@ -1,8 +1,4 @@
 use Rattle.value_bodies.proofs.Laws.{array_laws as laws}
-use Rattle.std.proofs.Common.{rules, ◌≡◌, ℕ, ◌+◌, ◌-◌, ◌*◌, ◌<◌, ◌≤◌, length, ◌/◌, ◌%◌, Bool, true, false, nat_eq, nat_lt, List, [], ◌∷◌, ◌++◌, slice_index_or, slice_set, bit_and, bit_or, Fits, w8, w32, w64, Bor, MutBor}
-use Rattle.encoded_value.specs.Answers.{step_outcome}
-use Rattle.value_bodies.specs.Bodies.{array_count, array_value, annotation_noted, annotation_element, values_past, elements_past, element_there, kth_value, kth_element}
-use Rattle.value_bodies.specs.Answers.{count_outcome, picked_outcome, annotation_head_outcome, element_outcome}
 use Rattle.value_bodies.proofs.array_value.Goals as goal
 
 pub returns-then-k-count : goal.returns-then-k-count

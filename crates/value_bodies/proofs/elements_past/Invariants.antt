@@ -2,10 +2,6 @@ use Rattle.refusal.proofs.Laws.{Walk as Loop}
 use Rattle.encoded_value.specs.Depth.{deepest_value}
 use Rattle.encoded_value.specs.Readings.{past_named}
 use Rattle.value_bodies.specs.Bodies.{elements_past}
-use Rattle.std.proofs.Common.{◌≡◌, ℕ, ◌+◌, ◌-◌, ◌*◌, ◌<◌, ◌≤◌, length}
-use Rattle.encoded_value.specs.Answers.{step_outcome}
-use Rattle.value_bodies.specs.Bodies.{array_count, array_value, annotation_noted, annotation_element, values_past, element_there, kth_value, kth_element}
-use Rattle.value_bodies.specs.Answers.{count_outcome, picked_outcome, annotation_head_outcome, element_outcome}
 use Rattle.value_bodies.proofs.elements_past.Given as goal
 
 abbrev pub invariant-loop-left : goal.invariant-loop-left

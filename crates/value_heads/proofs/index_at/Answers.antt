@@ -1,12 +1,5 @@
 use Rattle.value_heads.proofs.Laws.{checked_laws as laws}
 use Rattle.value_heads.specs.Readings.{index_at}
-use Rattle.std.proofs.Common.{rules, ◌≡◌, ◌+◌, ◌*◌, ◌^◌, ◌≤◌, ◌<◌, length, ℕ, ◌-◌, ◌/◌, ◌%◌, Bool, true, false, nat_eq, nat_lt, List, [], ◌∷◌, ◌++◌, slice_index_or, slice_set, bit_and, bit_or, Fits, w8, w32, w64, Bor, MutBor}
-use Rattle.word.specs.Bytes.{stretch}
-use Rattle.value_heads.specs.Kinds.{allowed_head, bytes_of, is_index, walk_of, count_of, in_range}
-use Rattle.value_heads.specs.Numbers.{little}
-use Rattle.value_heads.specs.Readings.{head_byte_at, number_at, checked_at}
-use Rattle.value_heads.specs.Answers.{head_byte_outcome, number_outcome, Small}
-use Rattle.leb128.specs.Answers.{leb_outcome}
 use Rattle.value_heads.proofs.index_at.Goals as goal
 
 pub returns-then-value-count : goal.returns-then-value-count

@@ -1,8 +1,5 @@
 use Rattle.class_readers.proofs.MemberLaws.{laws}
 use Rattle.class_readers.specs.Members.{member_flags, flags_in}
-use Rattle.std.proofs.Common.{rules, ◌≡◌, length, ℕ, ◌+◌, ◌-◌, ◌*◌, ◌<◌, ◌≤◌, ◌/◌, ◌%◌, Bool, true, false, nat_eq, nat_lt, List, [], ◌∷◌, ◌++◌, slice_index_or, slice_set, bit_and, bit_or, Fits, w8, w32, w64, Bor, MutBor}
-use Rattle.class_readers.specs.Members.{counts_under, class_data, member_under, member_number, member_content}
-use Rattle.class_readers.specs.Answers.{maybe_data, maybe_member, maybe_count}
 use Rattle.class_readers.proofs.members.member_flags.Goals as goal
 
 pub returns-in-Refused-clause-answer : goal.returns-in-Refused-clause-answer

@@ -1,8 +1,5 @@
 use Rattle.class_readers.proofs.SpotLaws.{under_laws as laws}
 use Rattle.class_readers.specs.Members.{member_under}
-use Rattle.std.proofs.Common.{rules, ◌≡◌, length, ℕ, ◌+◌, ◌-◌, ◌*◌, ◌<◌, ◌≤◌, ◌/◌, ◌%◌, Bool, true, false, nat_eq, nat_lt, List, [], ◌∷◌, ◌++◌, slice_index_or, slice_set, bit_and, bit_or, Fits, w8, w32, w64, Bor, MutBor}
-use Rattle.class_readers.specs.Members.{counts_under, class_data, member_number, member_flags, member_content}
-use Rattle.class_readers.specs.Answers.{maybe_data, maybe_member, maybe_count}
 use Rattle.class_readers.proofs.members.member_under.Goals as goal
 
 pub returns-in-Refused : goal.returns-in-Refused

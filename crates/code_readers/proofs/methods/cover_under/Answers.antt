@@ -1,10 +1,5 @@
 use Rattle.code_readers.proofs.Laws.{under_laws as laws}
 use Rattle.code_readers.specs.Code.{cover_under}
-use Rattle.std.proofs.Common.{rules, ◌≡◌, length, ℕ, ◌+◌, ◌-◌, ◌*◌, ◌<◌, ◌≤◌, ◌/◌, ◌%◌, Bool, true, false, nat_eq, nat_lt, List, [], ◌∷◌, ◌++◌, slice_index_or, slice_set, bit_and, bit_or, Fits, w8, w32, w64, Bor, MutBor}
-use Rattle.code_item.specs.Answers.{cover_outcome}
-use Rattle.code_readers.specs.Code.{outline_under, method_code, try_under, try_number, covering_try, handler_count, handler_under, handler_number, pair_under, handler_pair, units_into, units_written, units_under, method_units, units_over, units_content, code_in}
-use Rattle.class_readers.specs.Answers.{maybe_count}
-use Rattle.code_readers.specs.Answers.{maybe_code, maybe_try, maybe_handler, maybe_pair}
 use Rattle.code_readers.proofs.methods.cover_under.Goals as goal
 
 pub returns : goal.returns

@@ -1,8 +1,5 @@
 use Rattle.table_readers.proofs.FlagLaws.{laws}
 use Rattle.table_readers.specs.Flags.{class_flags}
-use Rattle.std.proofs.Common.{rules, ◌≡◌, length, ℕ, ◌+◌, ◌-◌, ◌*◌, ◌<◌, ◌≤◌, ◌/◌, ◌%◌, Bool, true, false, nat_eq, nat_lt, List, [], ◌∷◌, ◌++◌, slice_index_or, slice_set, bit_and, bit_or, Fits, w8, w32, w64, Bor, MutBor}
-use Rattle.access_flags.specs.Answers.{flags_outcome}
-use Rattle.table_readers.specs.Flags.{class_content}
 use Rattle.table_readers.proofs.flags.class_flags.Goals as goal
 
 pub returns-in-Refused-clause-answer : goal.returns-in-Refused-clause-answer

@@ -1,10 +1,5 @@
 use Rattle.table_readers.proofs.HeadLaws.{laws}
 use Rattle.table_readers.specs.Head.{mapped_at}
-use Rattle.std.proofs.Common.{rules, ◌≡◌, ℕ, ◌+◌, ◌-◌, ◌*◌, ◌<◌, ◌≤◌, length, ◌/◌, ◌%◌, Bool, true, false, nat_eq, nat_lt, List, [], ◌∷◌, ◌++◌, slice_index_or, slice_set, bit_and, bit_or, Fits, w8, w32, w64, Bor, MutBor}
-use Rattle.header.specs.Header.{header_at}
-use Rattle.header.specs.Answers.{header_outcome}
-use Rattle.table_readers.specs.Head.{signature_of, map_count, map_entry_in, map_entry, handle_count, opened_at}
-use Rattle.table_readers.specs.Answers.{count_outcome, entry_outcome, opened_outcome}
 use Rattle.table_readers.proofs.head.mapped.Goals as goal
 
 pub returns-in-Refused : goal.returns-in-Refused
