@@ -1,11 +1,20 @@
 // What the programs do: read an input whole, have it checked, write its report, and tell what it all came to. The parts that are public serve `registering` too. What is read and written no contract can say.
 #![tactic(auto)]
 
-ghost use Rattle.std.specs.Prelude.{◌≡◌, ◌≤◌, max, length};
+ghost use Rattle.std.specs.Prelude.{◌≡◌, ◌≤◌, max, length, IfOk};
 ghost use Rattle.verdict.specs.Answers.{verdict_outcome};
 ghost use Rattle.checking.specs.Status.{digit, Tells, Comes, Within};
 
+mod outputs;
+mod paths;
+mod reasons;
+
+pub use outputs::{close_output, write_output};
+pub use reasons::tell_why;
 use report::ReportAnswer;
+use std::env::{Env, FillError};
+use std::fs::Files;
+use std::io::Read;
 use verdict::Verdict;
 
 // One byte more than is taken, so that an input that is too long is known to be.
@@ -14,7 +23,9 @@ pub const ROOM: usize = 65537;
 // Room for the line of the longest path, 4,096 bytes and 6, and for the longest report, 288.
 const OUT: usize = 4390;
 
-// The descriptor that the exit status is written to, where it is asked for.
+// Standard error, and the descriptor that the exit status is written to, where it is asked for.
+const STDERR_FILENO: i32 = 2;
+
 const STATUS_FILENO: i32 = 9;
 
 // What an input comes to where it has no report, and where what was to be written could not be: after that nothing more is read.
@@ -48,32 +59,32 @@ fn digit_of(status: u8) -> u8
 pub fn complain(what: &[u8], why: &[u8]) -> u8
     ensures { 2 ≤ result }
 {
-    if !io::write_all(libc::STDERR_FILENO, what) {
+    if !io::write_all(STDERR_FILENO, what) {
         return UNWRITTEN;
     }
-    if !io::write_all(libc::STDERR_FILENO, why) {
+    if !io::write_all(STDERR_FILENO, why) {
         return UNWRITTEN;
     }
     UNREAD
 }
 
-// The same, where errno says why: a write that is done leaves it as it was.
-fn fail(what: &[u8]) -> u8
+// The same, where an error says why.
+fn fail(what: &[u8], error: std::io::Error) -> u8
     ensures { 2 ≤ result }
 {
-    if !io::write_all(libc::STDERR_FILENO, what) {
+    if !io::write_all(STDERR_FILENO, what) {
         return UNWRITTEN;
     }
-    os::fail(b"");
+    reasons::tell_why(b"", error);
     UNREAD
 }
 
 // A byte of a name on standard error, a line feed as \n.
 fn show_byte(b: u8) -> bool {
     if b == b'\n' {
-        return io::write_all(libc::STDERR_FILENO, b"\\n");
+        return io::write_all(STDERR_FILENO, b"\\n");
     }
-    io::write_all(libc::STDERR_FILENO, &[b])
+    io::write_all(STDERR_FILENO, &[b])
 }
 
 // A name on standard error, on one line.
@@ -99,14 +110,13 @@ fn refuse_name(name: &[u8]) -> u8
 }
 
 // Writes what goes out for an input with this verdict, in one piece; `what` is said on standard error, `name` on standard output.
-pub fn write_report(verdict: Verdict, what: &[u8], name: &[u8]) -> u8
+pub fn write_report(rt: &impl Print, verdict: Verdict, what: &[u8], name: &[u8]) -> u8
     ensures { Tells (verdict_outcome verdict) result }
 {
     let mut out = [0u8; OUT];
     match named_report::output_into(name, verdict, &mut out) {
         ReportAnswer::Got(k) => {
-            if !io::write_all(libc::STDOUT_FILENO, &out[..k]) {
-                os::fail(b"standard output");
+            if !outputs::write_output(rt, &out[..k]) {
                 return UNWRITTEN;
             }
             named_report::status_of(verdict)
@@ -116,10 +126,10 @@ pub fn write_report(verdict: Verdict, what: &[u8], name: &[u8]) -> u8
 }
 
 // Checks an input that was read whole.
-fn check_bytes(f: &[u8], what: &[u8], name: &[u8]) -> u8
+fn check_bytes(rt: &impl Print, f: &[u8], what: &[u8], name: &[u8]) -> u8
     ensures { Comes f.now result }
 {
-    write_report(file_report::input_verdict(f), what, name)
+    write_report(rt, file_report::input_verdict(f), what, name)
 }
 
 // An input that was not read, and what it comes to.
@@ -133,91 +143,116 @@ fn unread(status: u8) -> Input
     }
 }
 
+// Reads until a room is full, the input ends or a read fails.
+fn read_full(from: &mut impl Read, room: &mut [u8]) -> std::io::Result<usize>
+    ensures { IfOk result (λ n. n ≤ length room.old) }
+{
+    let mut done: usize = 0;
+    while done < room.len() {
+        let n = from.read(&mut room[done..])?;
+        if n == 0 {
+            return Ok(done);
+        }
+        done += n;
+    }
+    Ok(done)
+}
+
 // An input, of which `what` is said on standard error, read whole into a lent room. Where its bytes run out one more read tells whether it ends there, so that an
 // input whose reading failed, or that grew, is not taken for a short one.
-fn read_whole(fd: i32, what: &[u8], room: &mut [u8]) -> Input
+fn read_whole(from: &mut impl Read, what: &[u8], room: &mut [u8]) -> Input
     ensures { Within result.name result.length 0 (length room.old) }
 {
-    let n = io::read_full(fd, room);
-    if n < room.len() {
-        let mut more = [0u8; 1];
-        let got = libc::read(fd, &mut more);
-        if got < 0 {
-            return unread(fail(what));
+    match read_full(from, room) {
+        Err(error) => unread(fail(what, error)),
+        Ok(n) => {
+            if n < room.len() {
+                let mut more = [0u8; 1];
+                match from.read(&mut more) {
+                    Err(error) => {
+                        return unread(fail(what, error));
+                    }
+                    Ok(got) => {
+                        if 0 < got {
+                            return unread(complain(what, b": it grew while it was read\n"));
+                        }
+                    }
+                }
+            }
+            Input {
+                name: 0,
+                length: n,
+                status: 0,
+            }
         }
-        if 0 < got {
-            return unread(complain(what, b": it grew while it was read\n"));
-        }
-    }
-    Input {
-        name: 0,
-        length: n,
-        status: 0,
     }
 }
 
 // Standard input.
-pub fn read_standard(room: &mut [u8]) -> Input
+pub fn read_standard(rt: &impl std::io::Input, room: &mut [u8]) -> Input
     ensures { Within result.name result.length 0 (length room.old) }
 {
-    read_whole(libc::STDIN_FILENO, b"standard input", room)
+    read_whole(&mut rt.reader(), b"standard input", room)
 }
 
-// The file of a name.
-fn read_file(name: &[u8], room: &mut [u8]) -> Input
+// The file of a name, which is argument i.
+fn read_file(rt: &(impl Files + Env), i: usize, name: &[u8], room: &mut [u8]) -> Input
     ensures { Within result.name result.length 0 (length room.old) }
 {
     if !named_report::is_one_line(name) {
         return unread(refuse_name(name));
     }
-    let fd = os::open_read(name);
-    if fd < 0 {
-        return unread(fail(name));
+    match paths::open_argument(rt, i, name) {
+        Err(error) => unread(fail(name, error)),
+        Ok(mut file) => read_whole(&mut file, name, room),
     }
-    let input = read_whole(fd, name, room);
-    libc::close(fd);
-    input
 }
 
 // The file that argument i names, and its name, into lent rooms.
-pub fn read_argument(i: usize, path: &mut [u8], room: &mut [u8]) -> Input
+pub fn read_argument(rt: &(impl Files + Env), i: usize, path: &mut [u8], room: &mut [u8]) -> Input
     ensures { Within result.name result.length (length path.old) (length room.old) }
 {
-    let n = os::arg(i, path);
-    if os::errno() != 0 {
-        return unread(fail(b"an argument"));
-    }
-    if n == 0 {
-        return unread(complain(b"an argument", b": an empty name\n"));
-    }
-    let input = read_file(&path[..n], room);
-    Input {
-        name: n,
-        length: input.length,
-        status: input.status,
+    match rt.arg(i, path) {
+        Err(error) => unread(fail(b"an argument", reasons::of_argument(error))),
+        Ok(n) => {
+            if n == 0 {
+                return unread(complain(b"an argument", b": an empty name\n"));
+            }
+            let input = read_file(rt, i, &path[..n], room);
+            Input {
+                name: n,
+                length: input.length,
+                status: input.status,
+            }
+        }
     }
 }
 
 // Checks the file that argument i names.
-fn check_argument(i: usize, path: &mut [u8], room: &mut [u8]) -> u8 {
-    let input = read_argument(i, path, room);
+fn check_argument(
+    rt: &(impl Files + Env + Print),
+    i: usize,
+    path: &mut [u8],
+    room: &mut [u8],
+) -> u8 {
+    let input = read_argument(rt, i, path, room);
     let k = input.name;
     let n = input.length;
     if 0 < input.status {
         return input.status;
     }
     let name = &path[..k];
-    check_bytes(&room[..n], name, name)
+    check_bytes(rt, &room[..n], name, name)
 }
 
 // Checks the files that the arguments from i on name, up to a write that fails: the worst that they come to.
-fn check_arguments(first: usize, count: usize) -> u8 {
+fn check_arguments(rt: &(impl Files + Env + Print), first: usize, count: usize) -> u8 {
     let mut path = io::buffer();
     let mut room = [0u8; ROOM];
     let mut worst: u8 = 0;
     let mut i = first;
     while i < count {
-        worst = worse(worst, check_argument(i, &mut path, &mut room));
+        worst = worse(worst, check_argument(rt, i, &mut path, &mut room));
         if worst == UNWRITTEN {
             return worst;
         }
@@ -227,61 +262,57 @@ fn check_arguments(first: usize, count: usize) -> u8 {
 }
 
 // Checks standard input.
-fn check_standard() -> u8 {
+fn check_standard(rt: &(impl std::io::Input + Print)) -> u8 {
     let mut room = [0u8; ROOM];
-    let input = read_standard(&mut room);
+    let input = read_standard(rt, &mut room);
     let n = input.length;
     if 0 < input.status {
         return input.status;
     }
-    check_bytes(&room[..n], b"standard input", b"")
-}
-
-// Has all that was written arrived? Some file systems say so at the close alone.
-pub fn close_output(status: u8) -> u8
-    ensures { status ≤ result }
-{
-    if status == UNWRITTEN {
-        return status;
-    }
-    if libc::close(libc::STDOUT_FILENO) < 0 {
-        os::fail(b"standard output");
-        return worse(status, UNWRITTEN);
-    }
-    status
+    check_bytes(rt, &room[..n], b"standard input", b"")
 }
 
 // Is the exit status asked for? An empty first argument does so: it names no file.
-pub fn is_asked() -> bool {
+pub fn is_asked(rt: &impl Env) -> bool {
     let mut word = [0u8; 1];
-    let n = os::arg(1, &mut word);
-    if os::errno() != 0 {
-        return false;
+    match rt.arg(1, &mut word) {
+        Err(_) => false,
+        Ok(n) => n == 0,
     }
-    n == 0
 }
 
 // Writes the exit status to its descriptor.
 pub fn tell(status: u8) {
     if !io::write_all(STATUS_FILENO, &[digit_of(status)]) {
-        os::fail(b"exit status");
+        io::write_all(STDERR_FILENO, b"exit status: it could not be written\n");
     }
+}
+
+// How many arguments there are, the program's own name with them.
+pub fn argument_count(rt: &impl Env) -> usize {
+    let mut word = [0u8; 1];
+    for i in 0..usize::MAX {
+        if let Err(FillError::NotPresent) = rt.arg(i, &mut word) {
+            return i;
+        }
+    }
+    usize::MAX
 }
 
 // Checks standard input, or each file that is named from an argument on.
-fn check_from(first: usize) -> u8 {
-    let count = os::arg_count();
+fn check_from(rt: &(impl Files + Env + std::io::Input + Print), first: usize) -> u8 {
+    let count = argument_count(rt);
     if count <= first {
-        return check_standard();
+        return check_standard(rt);
     }
-    check_arguments(first, count)
+    check_arguments(rt, first, count)
 }
 
 // The program.
-pub fn run() {
-    if is_asked() {
-        tell(close_output(check_from(2)));
+pub fn run(rt: &(impl Files + Env + std::io::Input + Print)) {
+    if is_asked(rt) {
+        tell(outputs::close_output(rt, check_from(rt, 2)));
     } else {
-        close_output(check_from(1));
+        outputs::close_output(rt, check_from(rt, 1));
     }
 }

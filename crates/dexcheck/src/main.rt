@@ -1,6 +1,6 @@
 // Document 01's program: checks standard input, or each file that is named, and writes the report.
 #![tactic(auto)]
 
-fn main() {
-    checking::run();
+fn main(rt: HostRuntime) {
+    checking::run(&rt);
 }

@@ -1,6 +1,6 @@
 // The register of standard input, or of each file that is named.
 #![tactic(auto)]
 
-fn main() {
-    registering::run();
+fn main(rt: HostRuntime) {
+    registering::run(&rt);
 }

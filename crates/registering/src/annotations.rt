@@ -84,6 +84,7 @@ pub fn entries_at(f: &[u8], header: Header, directory: u32) -> Entries {
 
 // The line of an annotation, whose body is at a place, and its elements.
 fn write_body(
+    rt: &impl Print,
     f: &[u8],
     header: Header,
     w: Walk,
@@ -101,9 +102,9 @@ fn write_body(
         } => match leb128::uleb(s, middle, w.item) {
             LebAnswer::Refused(_) => UNREAD,
             LebAnswer::Got { value: count, next } => {
-                let p = names::put_type_column(f, header, type_index, out, used);
-                let q = lines::put(b"\n", out, p);
-                let gone = values::write_values(f, header, w, fact, true, count, next, out, q);
+                let p = names::put_type_column(rt, f, header, type_index, out, used);
+                let q = lines::put(rt, b"\n", out, p);
+                let gone = values::write_values(rt, f, header, w, fact, true, count, next, out, q);
                 gone.used
             }
         },
@@ -112,6 +113,7 @@ fn write_body(
 
 // The annotation item at an offset.
 fn write_annotation(
+    rt: &impl Print,
     f: &[u8],
     header: Header,
     handles: u32,
@@ -123,15 +125,16 @@ fn write_annotation(
     let at = item as usize;
     let body = item as usize + 1;
     let visibility = word::byte_at(f, at);
-    let p = values::put_fact(f, header, fact, out, used);
-    let q = lines::put(b"\tannotation", out, p);
-    let r = names::put_number_column(visibility as u64, out, q);
+    let p = values::put_fact(rt, f, header, fact, out, used);
+    let q = lines::put(rt, b"\tannotation", out, p);
+    let r = names::put_number_column(rt, visibility as u64, out, q);
     let w = value_heads::walk_of(header::frame_of(header, handles), at);
-    write_body(f, header, w, fact, body, out, r)
+    write_body(rt, f, header, w, fact, body, out, r)
 }
 
 // The annotations of the set at an offset, numbered from a number on.
 pub fn write_set(
+    rt: &impl Print,
     f: &[u8],
     header: Header,
     handles: u32,
@@ -153,7 +156,7 @@ pub fn write_set(
             kind: 2,
             number,
         };
-        u = write_annotation(f, header, handles, numbered, item, out, u);
+        u = write_annotation(rt, f, header, handles, numbered, item, out, u);
         number = std::num::wrapping_add_u32(number, 1);
         i += 1;
     }
@@ -162,6 +165,7 @@ pub fn write_set(
 
 // The annotations of entry k, where it is the field's, numbered from a number on.
 fn write_entry(
+    rt: &impl Print,
     f: &[u8],
     header: Header,
     handles: u32,
@@ -182,7 +186,7 @@ fn write_entry(
             kind: 2,
             number,
         };
-        return write_set(f, header, handles, more, set, out, used);
+        return write_set(rt, f, header, handles, more, set, out, used);
     }
     Numbered { number, used }
 }
@@ -205,6 +209,7 @@ fn is_past(rising: bool, index: u32, field: u32) -> bool {
 
 // The annotations of a field: of all its entries, in their order. Where the entries are in order, those of the fields before are not looked at again.
 pub fn write_entries(
+    rt: &impl Print,
     f: &[u8],
     header: Header,
     handles: u32,
@@ -225,7 +230,7 @@ pub fn write_entries(
             return Reached { entry: k, used: u };
         }
         let numbered = write_entry(
-            f, header, handles, fact, directory, k, index, number, out, u,
+            rt, f, header, handles, fact, directory, k, index, number, out, u,
         );
         number = numbered.number;
         u = numbered.used;

@@ -61,6 +61,7 @@ fn values_at(s: &[u8], values: u32) -> Counted {
 
 // A line of a field: class, name, a word, and a number.
 fn put_flags(
+    rt: &impl Print,
     f: &[u8],
     header: Header,
     fact: Fact,
@@ -68,22 +69,31 @@ fn put_flags(
     out: &mut [u8],
     used: usize,
 ) -> usize {
-    let p = values::put_owner(f, header, fact, out, used);
-    let q = lines::put(b"flags", out, p);
-    let r = names::put_number_column(flags as u64, out, q);
-    lines::put(b"\n", out, r)
+    let p = values::put_owner(rt, f, header, fact, out, used);
+    let q = lines::put(rt, b"flags", out, p);
+    let r = names::put_number_column(rt, flags as u64, out, q);
+    lines::put(rt, b"\n", out, r)
 }
 
 // The same, and a type.
-fn put_kind(f: &[u8], header: Header, fact: Fact, kind: u32, out: &mut [u8], used: usize) -> usize {
-    let p = values::put_owner(f, header, fact, out, used);
-    let q = lines::put(b"type", out, p);
-    let r = names::put_type_column(f, header, kind, out, q);
-    lines::put(b"\n", out, r)
+fn put_kind(
+    rt: &impl Print,
+    f: &[u8],
+    header: Header,
+    fact: Fact,
+    kind: u32,
+    out: &mut [u8],
+    used: usize,
+) -> usize {
+    let p = values::put_owner(rt, f, header, fact, out, used);
+    let q = lines::put(rt, b"type", out, p);
+    let r = names::put_type_column(rt, f, header, kind, out, q);
+    lines::put(rt, b"\n", out, r)
 }
 
 // The value of a field of a type, past the list.
 fn put_default(
+    rt: &impl Print,
     f: &[u8],
     header: Header,
     fact: Fact,
@@ -101,8 +111,8 @@ fn put_default(
                 units: _,
             } => {
                 let value = static_kinds::default_of(word::bytes_at(f, start, length));
-                let p = values::put_fact(f, header, fact, out, used);
-                values::put_value(f, header, value, out, p)
+                let p = values::put_fact(rt, f, header, fact, out, used);
+                values::put_value(rt, f, header, value, out, p)
             }
         },
     }
@@ -110,6 +120,7 @@ fn put_default(
 
 // The value of a field: the next that is stored, or the one by default.
 fn write_start(
+    rt: &impl Print,
     f: &[u8],
     header: Header,
     handles: u32,
@@ -130,15 +141,16 @@ fn write_start(
         };
         return Gone {
             next: rest.value,
-            used: put_default(f, header, missing, kind, out, used),
+            used: put_default(rt, f, header, missing, kind, out, used),
         };
     }
     let w = value_heads::walk_of(header::frame_of(header, handles), array as usize);
-    values::write_value(f, header, w, fact, rest.value, out, used)
+    values::write_value(rt, f, header, w, fact, rest.value, out, used)
 }
 
 // All lines of a field: flags, type, value, annotations.
 fn write_field(
+    rt: &impl Print,
     f: &[u8],
     header: Header,
     handles: u32,
@@ -164,11 +176,11 @@ fn write_field(
                 kind: 0,
                 number: 0,
             };
-            let p = put_flags(f, header, fact, flags, out, rest.used);
-            let q = put_kind(f, header, fact, m.kind, out, p);
-            let gone = write_start(f, header, handles, fact, m.kind, c.values, rest, out, q);
+            let p = put_flags(rt, f, header, fact, flags, out, rest.used);
+            let q = put_kind(rt, f, header, fact, m.kind, out, p);
+            let gone = write_start(rt, f, header, handles, fact, m.kind, c.values, rest, out, q);
             let reached = annotations::write_entries(
-                f, header, handles, fact, entries, rest.entry, index, out, gone.used,
+                rt, f, header, handles, fact, entries, rest.entry, index, out, gone.used,
             );
             Rest {
                 stored: one_less(rest.stored),
@@ -197,6 +209,7 @@ fn kept_entry(rising: bool, entry: u32) -> u32 {
 
 // The static fields of a class, each behind the one before.
 fn write_fields(
+    rt: &impl Print,
     f: &[u8],
     header: Header,
     handles: u32,
@@ -231,6 +244,7 @@ fn write_fields(
             }
             MemberFoundAnswer::Got { member, next } => {
                 rest = write_field(
+                    rt,
                     f,
                     header,
                     handles,
@@ -253,6 +267,7 @@ fn write_fields(
 
 // The annotations of a class.
 fn write_own(
+    rt: &impl Print,
     f: &[u8],
     header: Header,
     handles: u32,
@@ -271,12 +286,13 @@ fn write_own(
         kind: 2,
         number: 0,
     };
-    let numbered = annotations::write_set(f, header, handles, fact, set, out, used);
+    let numbered = annotations::write_set(rt, f, header, handles, fact, set, out, used);
     numbered.used
 }
 
 // Class n.
 fn write_class(
+    rt: &impl Print,
     f: &[u8],
     header: Header,
     handles: u32,
@@ -290,14 +306,20 @@ fn write_class(
         ClassAnswer::Refused(_) => UNREAD,
         ClassAnswer::Got(c) => {
             let entries = annotations::entries_at(f, header, c.directory);
-            let p = write_own(f, header, handles, c.class, entries.set, out, used);
-            write_fields(f, header, handles, c, entries, out, p)
+            let p = write_own(rt, f, header, handles, c.class, entries.set, out, used);
+            write_fields(rt, f, header, handles, c, entries, out, p)
         }
     }
 }
 
 // All classes.
-pub fn write_classes(f: &[u8], header: Header, out: &mut [u8], used: usize) -> usize {
+pub fn write_classes(
+    rt: &impl Print,
+    f: &[u8],
+    header: Header,
+    out: &mut [u8],
+    used: usize,
+) -> usize {
     match map_list::map_of(f, header) {
         MapAnswer::Refused(_) => UNREAD,
         MapAnswer::Got(m) => {
@@ -307,7 +329,7 @@ pub fn write_classes(f: &[u8], header: Header, out: &mut [u8], used: usize) -> u
             let mut n: u32 = 0;
             let mut left = classes.count;
             while 0 < left {
-                u = write_class(f, header, handles.count, n, out, u);
+                u = write_class(rt, f, header, handles.count, n, out, u);
                 n = std::num::wrapping_add_u32(n, 1);
                 left -= 1;
             }

@@ -8,6 +8,8 @@ ghost use Rattle.registering.specs.Ends.{Ended};
 
 use checking::ROOM;
 use header::Header;
+use std::env::Env;
+use std::fs::Files;
 use verdict::Verdict;
 
 mod annotations;
@@ -17,46 +19,51 @@ mod names;
 mod values;
 
 // The heading of a file that is named, and its register. Standard input has an empty name.
-fn write_register(f: &[u8], header: Header, what: &[u8], name: &[u8]) -> u8
+fn write_register(rt: &impl Print, f: &[u8], header: Header, what: &[u8], name: &[u8]) -> u8
     ensures { Ended result }
 {
     let mut out = [0u8; lines::SPACE];
-    let start = lines::put_heading(name, &mut out);
-    let used = classes::write_classes(f, header, &mut out, start);
-    lines::ended(lines::flush(&out, used), what)
+    let start = lines::put_heading(rt, name, &mut out);
+    let used = classes::write_classes(rt, f, header, &mut out, start);
+    lines::ended(lines::flush(rt, &out, used), what)
 }
 
 // Checks an input that was read whole, and writes its register, or its refusal.
-fn register_bytes(f: &[u8], what: &[u8], name: &[u8]) -> u8
+fn register_bytes(rt: &impl Print, f: &[u8], what: &[u8], name: &[u8]) -> u8
     ensures { Comes f.now result }
 {
     let verdict = file_report::input_verdict(f);
     match verdict {
-        Verdict::Refused(_) => checking::write_report(verdict, what, name),
-        Verdict::Accepted(header) => write_register(f, header, what, name),
+        Verdict::Refused(_) => checking::write_report(rt, verdict, what, name),
+        Verdict::Accepted(header) => write_register(rt, f, header, what, name),
     }
 }
 
 // The register of the file that argument i names.
-fn register_argument(i: usize, path: &mut [u8], room: &mut [u8]) -> u8 {
-    let input = checking::read_argument(i, path, room);
+fn register_argument(
+    rt: &(impl Files + Env + Print),
+    i: usize,
+    path: &mut [u8],
+    room: &mut [u8],
+) -> u8 {
+    let input = checking::read_argument(rt, i, path, room);
     let k = input.name;
     let n = input.length;
     if 0 < input.status {
         return input.status;
     }
     let name = &path[..k];
-    register_bytes(&room[..n], name, name)
+    register_bytes(rt, &room[..n], name, name)
 }
 
 // The registers of the files that the arguments from one on name, up to a write that fails: the worst that they come to.
-fn register_arguments(first: usize, count: usize) -> u8 {
+fn register_arguments(rt: &(impl Files + Env + Print), first: usize, count: usize) -> u8 {
     let mut path = io::buffer();
     let mut room = [0u8; ROOM];
     let mut worst: u8 = 0;
     let mut i = first;
     while i < count {
-        worst = checking::worse(worst, register_argument(i, &mut path, &mut room));
+        worst = checking::worse(worst, register_argument(rt, i, &mut path, &mut room));
         if worst == checking::UNWRITTEN {
             return worst;
         }
@@ -66,30 +73,30 @@ fn register_arguments(first: usize, count: usize) -> u8 {
 }
 
 // The register of standard input.
-fn register_standard() -> u8 {
+fn register_standard(rt: &(impl std::io::Input + Print)) -> u8 {
     let mut room = [0u8; ROOM];
-    let input = checking::read_standard(&mut room);
+    let input = checking::read_standard(rt, &mut room);
     let n = input.length;
     if 0 < input.status {
         return input.status;
     }
-    register_bytes(&room[..n], b"standard input", b"")
+    register_bytes(rt, &room[..n], b"standard input", b"")
 }
 
 // Of standard input, or of each file that is named from an argument on.
-fn register_from(first: usize) -> u8 {
-    let count = os::arg_count();
+fn register_from(rt: &(impl Files + Env + std::io::Input + Print), first: usize) -> u8 {
+    let count = checking::argument_count(rt);
     if count <= first {
-        return register_standard();
+        return register_standard(rt);
     }
-    register_arguments(first, count)
+    register_arguments(rt, first, count)
 }
 
 // The program.
-pub fn run() {
-    if checking::is_asked() {
-        checking::tell(checking::close_output(register_from(2)));
+pub fn run(rt: &(impl Files + Env + std::io::Input + Print)) {
+    if checking::is_asked(rt) {
+        checking::tell(checking::close_output(rt, register_from(rt, 2)));
     } else {
-        checking::close_output(register_from(1));
+        checking::close_output(rt, register_from(rt, 1));
     }
 }

@@ -15,26 +15,25 @@ const UNWRITTEN: usize = 1048577;
 pub const UNREAD: usize = 1048578;
 
 // Writes what is there.
-pub fn flush(out: &[u8], used: usize) -> usize {
+pub fn flush(rt: &impl Print, out: &[u8], used: usize) -> usize {
     if out.len() < used {
         return used;
     }
-    if io::write_all(libc::STDOUT_FILENO, &out[..used]) {
+    if checking::write_output(rt, &out[..used]) {
         return 0;
     }
-    os::fail(b"standard output");
     UNWRITTEN
 }
 
 // Room for what is put at once.
-fn reserve(out: &[u8], used: usize) -> usize {
+fn reserve(rt: &impl Print, out: &[u8], used: usize) -> usize {
     if out.len() < LEAST {
         return UNREAD;
     }
     if used <= out.len() - LEAST {
         return used;
     }
-    flush(out, used)
+    flush(rt, out, used)
 }
 
 // How much is used after a text or number was put behind what was used.
@@ -54,8 +53,8 @@ fn after(used: usize, answer: ReportAnswer) -> usize {
 }
 
 // A word of the format.
-pub fn put(word: &[u8], out: &mut [u8], used: usize) -> usize {
-    let p = reserve(out, used);
+pub fn put(rt: &impl Print, word: &[u8], out: &mut [u8], used: usize) -> usize {
+    let p = reserve(rt, out, used);
     if out.len() <= p {
         return p;
     }
@@ -63,8 +62,8 @@ pub fn put(word: &[u8], out: &mut [u8], used: usize) -> usize {
 }
 
 // A number.
-pub fn put_number(n: u64, out: &mut [u8], used: usize) -> usize {
-    let p = reserve(out, used);
+pub fn put_number(rt: &impl Print, n: u64, out: &mut [u8], used: usize) -> usize {
+    let p = reserve(rt, out, used);
     if out.len() <= p {
         return p;
     }
@@ -72,8 +71,8 @@ pub fn put_number(n: u64, out: &mut [u8], used: usize) -> usize {
 }
 
 // A signed number.
-pub fn put_integer(n: i64, out: &mut [u8], used: usize) -> usize {
-    let p = reserve(out, used);
+pub fn put_integer(rt: &impl Print, n: i64, out: &mut [u8], used: usize) -> usize {
+    let p = reserve(rt, out, used);
     if out.len() <= p {
         return p;
     }
@@ -81,8 +80,8 @@ pub fn put_integer(n: i64, out: &mut [u8], used: usize) -> usize {
 }
 
 // A magnitude with its sign.
-pub fn put_signed(negative: bool, n: u64, out: &mut [u8], used: usize) -> usize {
-    let p = reserve(out, used);
+pub fn put_signed(rt: &impl Print, negative: bool, n: u64, out: &mut [u8], used: usize) -> usize {
+    let p = reserve(rt, out, used);
     if out.len() <= p {
         return p;
     }
@@ -90,8 +89,8 @@ pub fn put_signed(negative: bool, n: u64, out: &mut [u8], used: usize) -> usize 
 }
 
 // Bits, in so many hexadecimal digits.
-pub fn put_bits(n: u64, digits: usize, out: &mut [u8], used: usize) -> usize {
-    let p = reserve(out, used);
+pub fn put_bits(rt: &impl Print, n: u64, digits: usize, out: &mut [u8], used: usize) -> usize {
+    let p = reserve(rt, out, used);
     if out.len() <= p {
         return p;
     }
@@ -99,11 +98,11 @@ pub fn put_bits(n: u64, digits: usize, out: &mut [u8], used: usize) -> usize {
 }
 
 // A text, of any length, piece by piece; `key` for a name of a key.
-pub fn put_text(text: &[u8], key: bool, out: &mut [u8], used: usize) -> usize {
+pub fn put_text(rt: &impl Print, text: &[u8], key: bool, out: &mut [u8], used: usize) -> usize {
     let mut i: usize = 0;
     let mut p = used;
     while i < text.len() {
-        p = reserve(out, p);
+        p = reserve(rt, out, p);
         if out.len() < 4 {
             return UNREAD;
         }
@@ -118,24 +117,24 @@ pub fn put_text(text: &[u8], key: bool, out: &mut [u8], used: usize) -> usize {
 }
 
 // The bytes of a name as they are.
-fn put_bytes(name: &[u8], out: &mut [u8], used: usize) -> usize {
+fn put_bytes(rt: &impl Print, name: &[u8], out: &mut [u8], used: usize) -> usize {
     let mut p = used;
     let mut i: usize = 0;
     while i < name.len() {
-        p = put(&[name[i]], out, p);
+        p = put(rt, &[name[i]], out, p);
         i += 1;
     }
     p
 }
 
 // The line of a file's name, where it has one.
-pub fn put_heading(name: &[u8], out: &mut [u8]) -> usize {
+pub fn put_heading(rt: &impl Print, name: &[u8], out: &mut [u8]) -> usize {
     if name.len() == 0 {
         return 0;
     }
-    let p = put(b"file=", out, 0);
-    let q = put_bytes(name, out, p);
-    put(b"\n", out, q)
+    let p = put(rt, b"file=", out, 0);
+    let q = put_bytes(rt, name, out, p);
+    put(rt, b"\n", out, q)
 }
 
 // What a register comes to whose output was flushed: 0, or what was not read or written.

@@ -7,6 +7,7 @@ use text::TextAnswer;
 
 // String n.
 pub fn put_string(
+    rt: &impl Print,
     f: &[u8],
     header: Header,
     n: u32,
@@ -20,7 +21,7 @@ pub fn put_string(
             start,
             length,
             units: _,
-        } => lines::put_text(word::bytes_at(f, start, length), key, out, used),
+        } => lines::put_text(rt, word::bytes_at(f, start, length), key, out, used),
     }
 }
 
@@ -31,29 +32,50 @@ pub fn type_string(f: &[u8], header: Header, n: u32) -> IndexAnswer {
 }
 
 // The text of type n.
-pub fn put_type(f: &[u8], header: Header, n: u32, out: &mut [u8], used: usize) -> usize {
+pub fn put_type(
+    rt: &impl Print,
+    f: &[u8],
+    header: Header,
+    n: u32,
+    out: &mut [u8],
+    used: usize,
+) -> usize {
     match type_string(f, header, n) {
         IndexAnswer::Refused(_) => UNREAD,
-        IndexAnswer::Got(string) => put_string(f, header, string, false, out, used),
+        IndexAnswer::Got(string) => put_string(rt, f, header, string, false, out, used),
     }
 }
 
 // A tab, and the text of string n.
-fn put_string_column(f: &[u8], header: Header, n: u32, out: &mut [u8], used: usize) -> usize {
-    let p = lines::put(b"\t", out, used);
-    put_string(f, header, n, false, out, p)
+fn put_string_column(
+    rt: &impl Print,
+    f: &[u8],
+    header: Header,
+    n: u32,
+    out: &mut [u8],
+    used: usize,
+) -> usize {
+    let p = lines::put(rt, b"\t", out, used);
+    put_string(rt, f, header, n, false, out, p)
 }
 
 // A tab, and the text of type n.
-pub fn put_type_column(f: &[u8], header: Header, n: u32, out: &mut [u8], used: usize) -> usize {
-    let p = lines::put(b"\t", out, used);
-    put_type(f, header, n, out, p)
+pub fn put_type_column(
+    rt: &impl Print,
+    f: &[u8],
+    header: Header,
+    n: u32,
+    out: &mut [u8],
+    used: usize,
+) -> usize {
+    let p = lines::put(rt, b"\t", out, used);
+    put_type(rt, f, header, n, out, p)
 }
 
 // A tab, and a number.
-pub fn put_number_column(n: u64, out: &mut [u8], used: usize) -> usize {
-    let p = lines::put(b"\t", out, used);
-    lines::put_number(n, out, p)
+pub fn put_number_column(rt: &impl Print, n: u64, out: &mut [u8], used: usize) -> usize {
+    let p = lines::put(rt, b"\t", out, used);
+    lines::put_number(rt, n, out, p)
 }
 
 // The record of field n.
@@ -70,24 +92,45 @@ pub fn field_of(f: &[u8], header: Header, n: u32) -> MemberIdAnswer {
 }
 
 // Class and name of a member.
-fn put_member(f: &[u8], header: Header, m: MemberId, out: &mut [u8], used: usize) -> usize {
-    let p = put_type_column(f, header, m.class, out, used);
-    put_string_column(f, header, m.name, out, p)
+fn put_member(
+    rt: &impl Print,
+    f: &[u8],
+    header: Header,
+    m: MemberId,
+    out: &mut [u8],
+    used: usize,
+) -> usize {
+    let p = put_type_column(rt, f, header, m.class, out, used);
+    put_string_column(rt, f, header, m.name, out, p)
 }
 
 // Class, name and type of field n.
-pub fn put_field(f: &[u8], header: Header, n: u32, out: &mut [u8], used: usize) -> usize {
+pub fn put_field(
+    rt: &impl Print,
+    f: &[u8],
+    header: Header,
+    n: u32,
+    out: &mut [u8],
+    used: usize,
+) -> usize {
     match field_of(f, header, n) {
         MemberIdAnswer::Refused(_) => UNREAD,
         MemberIdAnswer::Got(m) => {
-            let p = put_member(f, header, m, out, used);
-            put_type_column(f, header, m.kind, out, p)
+            let p = put_member(rt, f, header, m, out, used);
+            put_type_column(rt, f, header, m.kind, out, p)
         }
     }
 }
 
 // Class, name and proto number of method n.
-pub fn put_method(f: &[u8], header: Header, n: u32, out: &mut [u8], used: usize) -> usize {
+pub fn put_method(
+    rt: &impl Print,
+    f: &[u8],
+    header: Header,
+    n: u32,
+    out: &mut [u8],
+    used: usize,
+) -> usize {
     let protos = header.protos;
     let methods = header.methods;
     match ids::member_at(
@@ -99,13 +142,20 @@ pub fn put_method(f: &[u8], header: Header, n: u32, out: &mut [u8], used: usize)
     ) {
         MemberIdAnswer::Refused(_) => UNREAD,
         MemberIdAnswer::Got(m) => {
-            let p = put_member(f, header, m, out, used);
-            put_number_column(m.kind as u64, out, p)
+            let p = put_member(rt, f, header, m, out, used);
+            put_number_column(rt, m.kind as u64, out, p)
         }
     }
 }
 
 // The text of string n, as a column.
-pub fn put_text_column(f: &[u8], header: Header, n: u32, out: &mut [u8], used: usize) -> usize {
-    put_string_column(f, header, n, out, used)
+pub fn put_text_column(
+    rt: &impl Print,
+    f: &[u8],
+    header: Header,
+    n: u32,
+    out: &mut [u8],
+    used: usize,
+) -> usize {
+    put_string_column(rt, f, header, n, out, used)
 }

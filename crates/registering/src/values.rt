@@ -50,42 +50,64 @@ struct Entered {
 }
 
 // The class and the field, each with a tab behind it.
-pub fn put_owner(f: &[u8], header: Header, fact: Fact, out: &mut [u8], used: usize) -> usize {
-    let p = names::put_type(f, header, fact.class, out, used);
-    let q = lines::put(b"\t", out, p);
+pub fn put_owner(
+    rt: &impl Print,
+    f: &[u8],
+    header: Header,
+    fact: Fact,
+    out: &mut [u8],
+    used: usize,
+) -> usize {
+    let p = names::put_type(rt, f, header, fact.class, out, used);
+    let q = lines::put(rt, b"\t", out, p);
     if fact.of_field {
-        let r = names::put_string(f, header, fact.field, false, out, q);
-        return lines::put(b"\t", out, r);
+        let r = names::put_string(rt, f, header, fact.field, false, out, q);
+        return lines::put(rt, b"\t", out, r);
     }
-    lines::put(b"\t", out, q)
+    lines::put(rt, b"\t", out, q)
 }
 
 // The front of a line up to its key: class, field and the fact.
-pub fn put_fact(f: &[u8], header: Header, fact: Fact, out: &mut [u8], used: usize) -> usize {
-    let p = put_owner(f, header, fact, out, used);
+pub fn put_fact(
+    rt: &impl Print,
+    f: &[u8],
+    header: Header,
+    fact: Fact,
+    out: &mut [u8],
+    used: usize,
+) -> usize {
+    let p = put_owner(rt, f, header, fact, out, used);
     if fact.kind == 0 {
-        return lines::put(b"value", out, p);
+        return lines::put(rt, b"value", out, p);
     }
     if fact.kind == 1 {
-        return lines::put(b"default", out, p);
+        return lines::put(rt, b"default", out, p);
     }
-    let q = lines::put(b"@", out, p);
-    lines::put_number(fact.number as u64, out, q)
+    let q = lines::put(rt, b"@", out, p);
+    lines::put_number(rt, fact.number as u64, out, q)
 }
 
 // A step of a key.
-fn put_step(f: &[u8], header: Header, step: u64, out: &mut [u8], used: usize) -> usize {
+fn put_step(
+    rt: &impl Print,
+    f: &[u8],
+    header: Header,
+    step: u64,
+    out: &mut [u8],
+    used: usize,
+) -> usize {
     if NAMED <= step {
-        let p = lines::put(b".", out, used);
-        return names::put_string(f, header, (step % 4294967296) as u32, true, out, p);
+        let p = lines::put(rt, b".", out, used);
+        return names::put_string(rt, f, header, (step % 4294967296) as u32, true, out, p);
     }
-    let p = lines::put(b"[", out, used);
-    let q = lines::put_number(std::num::wrapping_sub_u64(step, 1), out, p);
-    lines::put(b"]", out, q)
+    let p = lines::put(rt, b"[", out, used);
+    let q = lines::put_number(rt, std::num::wrapping_sub_u64(step, 1), out, p);
+    lines::put(rt, b"]", out, q)
 }
 
 // The key of a value in a value: the fact, and the steps to it.
 fn put_key(
+    rt: &impl Print,
     f: &[u8],
     header: Header,
     fact: Fact,
@@ -94,90 +116,99 @@ fn put_key(
     out: &mut [u8],
     used: usize,
 ) -> usize {
-    let mut p = put_fact(f, header, fact, out, used);
+    let mut p = put_fact(rt, f, header, fact, out, used);
     let mut i: usize = 0;
     while i < depth {
         if STEPS <= i {
             return UNREAD;
         }
-        p = put_step(f, header, steps[i], out, p);
+        p = put_step(rt, f, header, steps[i], out, p);
         i += 1;
     }
     p
 }
 
 // A word, and a signed number.
-fn put_signed_number(word: &[u8], n: i64, out: &mut [u8], used: usize) -> usize {
-    let p = lines::put(word, out, used);
-    lines::put_integer(n, out, p)
+fn put_signed_number(rt: &impl Print, word: &[u8], n: i64, out: &mut [u8], used: usize) -> usize {
+    let p = lines::put(rt, word, out, used);
+    lines::put_integer(rt, n, out, p)
 }
 
-fn put_byte(n: i8, out: &mut [u8], used: usize) -> usize {
-    put_signed_number(b"\tbyte\t", n as i64, out, used)
+fn put_byte(rt: &impl Print, n: i8, out: &mut [u8], used: usize) -> usize {
+    put_signed_number(rt, b"\tbyte\t", n as i64, out, used)
 }
 
-fn put_short(n: i16, out: &mut [u8], used: usize) -> usize {
-    put_signed_number(b"\tshort\t", n as i64, out, used)
+fn put_short(rt: &impl Print, n: i16, out: &mut [u8], used: usize) -> usize {
+    put_signed_number(rt, b"\tshort\t", n as i64, out, used)
 }
 
-fn put_int(n: i32, out: &mut [u8], used: usize) -> usize {
-    put_signed_number(b"\tint\t", n as i64, out, used)
+fn put_int(rt: &impl Print, n: i32, out: &mut [u8], used: usize) -> usize {
+    put_signed_number(rt, b"\tint\t", n as i64, out, used)
 }
 
-fn put_char(n: u16, out: &mut [u8], used: usize) -> usize {
-    let p = lines::put(b"\tchar\t", out, used);
-    lines::put_number(n as u64, out, p)
+fn put_char(rt: &impl Print, n: u16, out: &mut [u8], used: usize) -> usize {
+    let p = lines::put(rt, b"\tchar\t", out, used);
+    lines::put_number(rt, n as u64, out, p)
 }
 
 // The whole number of a float, where it is one, in a column more.
-fn put_whole(whole: Whole, out: &mut [u8], used: usize) -> usize {
+fn put_whole(rt: &impl Print, whole: Whole, out: &mut [u8], used: usize) -> usize {
     match whole {
         Whole::Absent => used,
         Whole::Number {
             negative,
             magnitude,
         } => {
-            let p = lines::put(b"\t", out, used);
-            lines::put_signed(negative, magnitude, out, p)
+            let p = lines::put(rt, b"\t", out, used);
+            lines::put_signed(rt, negative, magnitude, out, p)
         }
     }
 }
 
-fn put_float(bits: u32, out: &mut [u8], used: usize) -> usize {
-    let p = lines::put(b"\tfloat\t", out, used);
-    let q = lines::put_bits(bits as u64, 8, out, p);
-    put_whole(register_text::whole_of_float(bits), out, q)
+fn put_float(rt: &impl Print, bits: u32, out: &mut [u8], used: usize) -> usize {
+    let p = lines::put(rt, b"\tfloat\t", out, used);
+    let q = lines::put_bits(rt, bits as u64, 8, out, p);
+    put_whole(rt, register_text::whole_of_float(bits), out, q)
 }
 
-fn put_double(bits: u64, out: &mut [u8], used: usize) -> usize {
-    let p = lines::put(b"\tdouble\t", out, used);
-    let q = lines::put_bits(bits, 16, out, p);
-    put_whole(register_text::whole_of_double(bits), out, q)
+fn put_double(rt: &impl Print, bits: u64, out: &mut [u8], used: usize) -> usize {
+    let p = lines::put(rt, b"\tdouble\t", out, used);
+    let q = lines::put_bits(rt, bits, 16, out, p);
+    put_whole(rt, register_text::whole_of_double(bits), out, q)
 }
 
 // A value that is an index, by its kind.
-fn put_index(f: &[u8], header: Header, kind: u32, n: u32, out: &mut [u8], used: usize) -> usize {
+fn put_index(
+    rt: &impl Print,
+    f: &[u8],
+    header: Header,
+    kind: u32,
+    n: u32,
+    out: &mut [u8],
+    used: usize,
+) -> usize {
     if kind == 0x15 {
-        let p = lines::put(b"\tproto", out, used);
-        return names::put_number_column(n as u64, out, p);
+        let p = lines::put(rt, b"\tproto", out, used);
+        return names::put_number_column(rt, n as u64, out, p);
     }
     if kind == 0x16 {
-        let p = lines::put(b"\thandle", out, used);
-        return names::put_number_column(n as u64, out, p);
+        let p = lines::put(rt, b"\thandle", out, used);
+        return names::put_number_column(rt, n as u64, out, p);
     }
     if kind == 0x17 {
-        let p = lines::put(b"\tstring", out, used);
-        return names::put_text_column(f, header, n, out, p);
+        let p = lines::put(rt, b"\tstring", out, used);
+        return names::put_text_column(rt, f, header, n, out, p);
     }
     if kind == 0x18 {
-        let p = lines::put(b"\ttype", out, used);
-        return names::put_type_column(f, header, n, out, p);
+        let p = lines::put(rt, b"\ttype", out, used);
+        return names::put_type_column(rt, f, header, n, out, p);
     }
-    put_member_index(f, header, kind, n, out, used)
+    put_member_index(rt, f, header, kind, n, out, used)
 }
 
 // A field, an enum or a method.
 fn put_member_index(
+    rt: &impl Print,
     f: &[u8],
     header: Header,
     kind: u32,
@@ -186,35 +217,42 @@ fn put_member_index(
     used: usize,
 ) -> usize {
     if kind == 0x1a {
-        let p = lines::put(b"\tmethod", out, used);
-        return names::put_method(f, header, n, out, p);
+        let p = lines::put(rt, b"\tmethod", out, used);
+        return names::put_method(rt, f, header, n, out, p);
     }
     if kind == 0x1b {
-        let p = lines::put(b"\tenum", out, used);
-        return names::put_field(f, header, n, out, p);
+        let p = lines::put(rt, b"\tenum", out, used);
+        return names::put_field(rt, f, header, n, out, p);
     }
-    let p = lines::put(b"\tfield", out, used);
-    names::put_field(f, header, n, out, p)
+    let p = lines::put(rt, b"\tfield", out, used);
+    names::put_field(rt, f, header, n, out, p)
 }
 
-fn put_truth(b: bool, out: &mut [u8], used: usize) -> usize {
+fn put_truth(rt: &impl Print, b: bool, out: &mut [u8], used: usize) -> usize {
     if b {
-        return lines::put(b"\tboolean\t1", out, used);
+        return lines::put(rt, b"\tboolean\t1", out, used);
     }
-    lines::put(b"\tboolean\t0", out, used)
+    lines::put(rt, b"\tboolean\t0", out, used)
 }
 
 // A value that opens no body: its kind and its parts.
-fn put_plain(f: &[u8], header: Header, value: Value, out: &mut [u8], used: usize) -> usize {
+fn put_plain(
+    rt: &impl Print,
+    f: &[u8],
+    header: Header,
+    value: Value,
+    out: &mut [u8],
+    used: usize,
+) -> usize {
     match value {
-        Value::Byte(n) => put_byte(n, out, used),
-        Value::Short(n) => put_short(n, out, used),
-        Value::Char(n) => put_char(n, out, used),
-        Value::Int(n) => put_int(n, out, used),
-        Value::Long(n) => put_signed_number(b"\tlong\t", n, out, used),
-        Value::Float { bits, value: _ } => put_float(bits, out, used),
-        Value::Double { bits, value: _ } => put_double(bits, out, used),
-        Value::Index { kind, number } => put_index(f, header, kind, number, out, used),
+        Value::Byte(n) => put_byte(rt, n, out, used),
+        Value::Short(n) => put_short(rt, n, out, used),
+        Value::Char(n) => put_char(rt, n, out, used),
+        Value::Int(n) => put_int(rt, n, out, used),
+        Value::Long(n) => put_signed_number(rt, b"\tlong\t", n, out, used),
+        Value::Float { bits, value: _ } => put_float(rt, bits, out, used),
+        Value::Double { bits, value: _ } => put_double(rt, bits, out, used),
+        Value::Index { kind, number } => put_index(rt, f, header, kind, number, out, used),
         Value::Array {
             offset: _,
             length: _,
@@ -223,15 +261,22 @@ fn put_plain(f: &[u8], header: Header, value: Value, out: &mut [u8], used: usize
             offset: _,
             length: _,
         } => UNREAD,
-        Value::Null => lines::put(b"\tnull", out, used),
-        Value::Boolean(b) => put_truth(b, out, used),
+        Value::Null => lines::put(rt, b"\tnull", out, used),
+        Value::Boolean(b) => put_truth(rt, b, out, used),
     }
 }
 
 // The rest of a line: a value that opens no body.
-pub fn put_value(f: &[u8], header: Header, value: Value, out: &mut [u8], used: usize) -> usize {
-    let p = put_plain(f, header, value, out, used);
-    lines::put(b"\n", out, p)
+pub fn put_value(
+    rt: &impl Print,
+    f: &[u8],
+    header: Header,
+    value: Value,
+    out: &mut [u8],
+    used: usize,
+) -> usize {
+    let p = put_plain(rt, f, header, value, out, used);
+    lines::put(rt, b"\n", out, p)
 }
 
 fn stopped(at: usize) -> Shown {
@@ -245,15 +290,22 @@ fn stopped(at: usize) -> Shown {
 }
 
 // The rest of the line of an array, whose size is at a place.
-fn show_array(s: &[u8], item: usize, at: usize, out: &mut [u8], used: usize) -> Shown {
+fn show_array(
+    rt: &impl Print,
+    s: &[u8],
+    item: usize,
+    at: usize,
+    out: &mut [u8],
+    used: usize,
+) -> Shown {
     match leb128::uleb(s, at, item) {
         LebAnswer::Refused(_) => stopped(at),
         LebAnswer::Got { value: count, next } => {
-            let p = lines::put(b"\tarray", out, used);
-            let q = names::put_number_column(count as u64, out, p);
+            let p = lines::put(rt, b"\tarray", out, used);
+            let q = names::put_number_column(rt, count as u64, out, p);
             Shown {
                 next,
-                used: lines::put(b"\n", out, q),
+                used: lines::put(rt, b"\n", out, q),
                 opens: true,
                 named: false,
                 count,
@@ -264,6 +316,7 @@ fn show_array(s: &[u8], item: usize, at: usize, out: &mut [u8], used: usize) -> 
 
 // The rest of the line of an annotation that is a value: its type and its size are at a place.
 fn show_annotation(
+    rt: &impl Print,
     f: &[u8],
     header: Header,
     w: Walk,
@@ -280,12 +333,12 @@ fn show_annotation(
         } => match leb128::uleb(s, middle, w.item) {
             LebAnswer::Refused(_) => stopped(at),
             LebAnswer::Got { value: count, next } => {
-                let p = lines::put(b"\tannotation", out, used);
-                let q = names::put_type_column(f, header, type_index, out, p);
-                let r = names::put_number_column(count as u64, out, q);
+                let p = lines::put(rt, b"\tannotation", out, used);
+                let q = names::put_type_column(rt, f, header, type_index, out, p);
+                let r = names::put_number_column(rt, count as u64, out, q);
                 Shown {
                     next,
-                    used: lines::put(b"\n", out, r),
+                    used: lines::put(rt, b"\n", out, r),
                     opens: true,
                     named: true,
                     count,
@@ -296,12 +349,20 @@ fn show_annotation(
 }
 
 // The rest of the line of a value that opens no body, at a place.
-fn show_plain(f: &[u8], header: Header, w: Walk, at: usize, out: &mut [u8], used: usize) -> Shown {
+fn show_plain(
+    rt: &impl Print,
+    f: &[u8],
+    header: Header,
+    w: Walk,
+    at: usize,
+    out: &mut [u8],
+    used: usize,
+) -> Shown {
     match decoded_value::decode_at(header::up_to_end(f, header), w, at, DEEPEST_VALUE) {
         DecodedAnswer::Refused(_) => stopped(at),
         DecodedAnswer::Got { value, next } => Shown {
             next,
-            used: put_value(f, header, value, out, used),
+            used: put_value(rt, f, header, value, out, used),
             opens: false,
             named: false,
             count: 0,
@@ -310,19 +371,27 @@ fn show_plain(f: &[u8], header: Header, w: Walk, at: usize, out: &mut [u8], used
 }
 
 // The rest of the line of the value at a place.
-fn show(f: &[u8], header: Header, w: Walk, at: usize, out: &mut [u8], used: usize) -> Shown {
+fn show(
+    rt: &impl Print,
+    f: &[u8],
+    header: Header,
+    w: Walk,
+    at: usize,
+    out: &mut [u8],
+    used: usize,
+) -> Shown {
     let s = header::up_to_end(f, header);
     if s.len() <= at {
         return stopped(at);
     }
     let code = s[at] % 32;
     if code == 0x1c {
-        return show_array(s, w.item, at + 1, out, used);
+        return show_array(rt, s, w.item, at + 1, out, used);
     }
     if code == 0x1d {
-        return show_annotation(f, header, w, at + 1, out, used);
+        return show_annotation(rt, f, header, w, at + 1, out, used);
     }
-    show_plain(f, header, w, at, out, used)
+    show_plain(rt, f, header, w, at, out, used)
 }
 
 // The next step of a body, and where its value is: behind its name where it has one.
@@ -349,6 +418,7 @@ fn opened(named: bool) -> u64 {
 
 // A line: the next value of the body that was opened last, which stands at a place.
 fn write_step(
+    rt: &impl Print,
     f: &[u8],
     header: Header,
     w: Walk,
@@ -368,12 +438,13 @@ fn write_step(
     let top = depth - 1;
     let entered = enter(header::up_to_end(f, header), w, steps[top], at);
     steps[top] = entered.step;
-    let p = put_key(f, header, fact, steps, depth, out, used);
-    show(f, header, w, entered.at, out, p)
+    let p = put_key(rt, f, header, fact, steps, depth, out, used);
+    show(rt, f, header, w, entered.at, out, p)
 }
 
 // The values of the bodies that are open, and all that is in them. Each lies behind the one before, which is tested; a body that ends closes a step.
 fn write_open(
+    rt: &impl Print,
     f: &[u8],
     header: Header,
     w: Walk,
@@ -395,7 +466,7 @@ fn write_open(
             continue;
         }
         left[top] -= 1;
-        let shown = write_step(f, header, w, fact, steps, depth, p, out, u);
+        let shown = write_step(rt, f, header, w, fact, steps, depth, p, out, u);
         let next = shown.next;
         if next <= p {
             return Gone {
@@ -428,6 +499,7 @@ fn write_open(
 
 // The values of a body and all that is in them.
 pub fn write_values(
+    rt: &impl Print,
     f: &[u8],
     header: Header,
     w: Walk,
@@ -442,11 +514,14 @@ pub fn write_values(
     let mut left = [0u32; STEPS];
     steps[0] = opened(named);
     left[0] = count;
-    write_open(f, header, w, fact, &mut steps, &mut left, from, out, used)
+    write_open(
+        rt, f, header, w, fact, &mut steps, &mut left, from, out, used,
+    )
 }
 
 // The value at a place, with the front of its line, and all that is in it.
 pub fn write_value(
+    rt: &impl Print,
     f: &[u8],
     header: Header,
     w: Walk,
@@ -455,10 +530,11 @@ pub fn write_value(
     out: &mut [u8],
     used: usize,
 ) -> Gone {
-    let p = put_fact(f, header, fact, out, used);
-    let shown = show(f, header, w, at, out, p);
+    let p = put_fact(rt, f, header, fact, out, used);
+    let shown = show(rt, f, header, w, at, out, p);
     if shown.opens {
         return write_values(
+            rt,
             f,
             header,
             w,
