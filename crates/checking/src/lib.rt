@@ -110,7 +110,7 @@ fn refuse_name(name: &[u8]) -> u8
 }
 
 // Writes what goes out for an input with this verdict, in one piece; `what` is said on standard error, `name` on standard output.
-pub fn write_report(rt: &impl Print, verdict: Verdict, what: &[u8], name: &[u8]) -> u8
+pub fn write_report(rt: &(impl Env + Print), verdict: Verdict, what: &[u8], name: &[u8]) -> u8
     ensures { Tells (verdict_outcome verdict) result }
 {
     let mut out = [0u8; OUT];
@@ -126,7 +126,7 @@ pub fn write_report(rt: &impl Print, verdict: Verdict, what: &[u8], name: &[u8])
 }
 
 // Checks an input that was read whole.
-fn check_bytes(rt: &impl Print, f: &[u8], what: &[u8], name: &[u8]) -> u8
+fn check_bytes(rt: &(impl Env + Print), f: &[u8], what: &[u8], name: &[u8]) -> u8
     ensures { Comes f.now result }
 {
     write_report(rt, file_report::input_verdict(f), what, name)
@@ -262,7 +262,7 @@ fn check_arguments(rt: &(impl Files + Env + Print), first: usize, count: usize) 
 }
 
 // Checks standard input.
-fn check_standard(rt: &(impl std::io::Input + Print)) -> u8 {
+fn check_standard(rt: &(impl Env + std::io::Input + Print)) -> u8 {
     let mut room = [0u8; ROOM];
     let input = read_standard(rt, &mut room);
     let n = input.length;

@@ -2,6 +2,7 @@
 ghost use Rattle.std.specs.Prelude.{◌≤◌};
 
 use super::{UNWRITTEN, reasons};
+use std::env::{Env, FillError};
 use std::fs;
 use std::fs::{File, Files, OpenFile};
 use std::io::ErrorKind;
@@ -9,12 +10,31 @@ use std::io::ErrorKind;
 // Standard output, as a file.
 const OUTPUT: &str = "/dev/fd/1";
 
+// The environment variable that ./dexcheck and ./dexregister set where a pipe that nobody reads ends a program, and nothing is said of it: where SIGPIPE is not
+// ignored. No program of this language sees that for itself, since its runtime ignores SIGPIPE.
+const SILENT_PIPE: &str = "DRALOVIKA_SILENT_PIPE";
+
+// Is this error one of which nothing is said?
+fn is_silent(rt: &impl Env, error: std::io::Error) -> bool {
+    if error.kind() != ErrorKind::BrokenPipe {
+        return false;
+    }
+    let mut word = [0u8; 1];
+    match rt.var(SILENT_PIPE, &mut word) {
+        Err(FillError::NotPresent) => false,
+        Err(FillError::TooLong) => true,
+        Ok(_) => true,
+    }
+}
+
 // Writes all of it, or says why it could not.
-pub fn write_output(rt: &impl Print, bytes: &[u8]) -> bool {
+pub fn write_output(rt: &(impl Env + Print), bytes: &[u8]) -> bool {
     match rt.write_all(bytes) {
         Ok(()) => true,
         Err(error) => {
-            reasons::tell_why(b"standard output", error);
+            if !is_silent(rt, error) {
+                reasons::tell_why(b"standard output", error);
+            }
             false
         }
     }

@@ -5,6 +5,7 @@ use super::{lines, names, values};
 use annotation_directories::DirectoryHeadAnswer;
 use header::Header;
 use leb128::LebAnswer;
+use std::env::Env;
 use value_heads::Walk;
 
 // The field entries of a directory: where it is, how many there are, and whether their fields are in rising order.
@@ -84,7 +85,7 @@ pub fn entries_at(f: &[u8], header: Header, directory: u32) -> Entries {
 
 // The line of an annotation, whose body is at a place, and its elements.
 fn write_body(
-    rt: &impl Print,
+    rt: &(impl Env + Print),
     f: &[u8],
     header: Header,
     w: Walk,
@@ -113,7 +114,7 @@ fn write_body(
 
 // The annotation item at an offset.
 fn write_annotation(
-    rt: &impl Print,
+    rt: &(impl Env + Print),
     f: &[u8],
     header: Header,
     handles: u32,
@@ -134,7 +135,7 @@ fn write_annotation(
 
 // The annotations of the set at an offset, numbered from a number on.
 pub fn write_set(
-    rt: &impl Print,
+    rt: &(impl Env + Print),
     f: &[u8],
     header: Header,
     handles: u32,
@@ -165,7 +166,7 @@ pub fn write_set(
 
 // The annotations of entry k, where it is the field's, numbered from a number on.
 fn write_entry(
-    rt: &impl Print,
+    rt: &(impl Env + Print),
     f: &[u8],
     header: Header,
     handles: u32,
@@ -209,7 +210,7 @@ fn is_past(rising: bool, index: u32, field: u32) -> bool {
 
 // The annotations of a field: of all its entries, in their order. Where the entries are in order, those of the fields before are not looked at again.
 pub fn write_entries(
-    rt: &impl Print,
+    rt: &(impl Env + Print),
     f: &[u8],
     header: Header,
     handles: u32,

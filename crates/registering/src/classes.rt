@@ -9,6 +9,7 @@ use header::Header;
 use ids::{IndexAnswer, MemberIdAnswer};
 use leb128::LebAnswer;
 use map_list::MapAnswer;
+use std::env::Env;
 use text::TextAnswer;
 
 // How many things there are, and where they begin.
@@ -61,7 +62,7 @@ fn values_at(s: &[u8], values: u32) -> Counted {
 
 // A line of a field: class, name, a word, and a number.
 fn put_flags(
-    rt: &impl Print,
+    rt: &(impl Env + Print),
     f: &[u8],
     header: Header,
     fact: Fact,
@@ -77,7 +78,7 @@ fn put_flags(
 
 // The same, and a type.
 fn put_kind(
-    rt: &impl Print,
+    rt: &(impl Env + Print),
     f: &[u8],
     header: Header,
     fact: Fact,
@@ -93,7 +94,7 @@ fn put_kind(
 
 // The value of a field of a type, past the list.
 fn put_default(
-    rt: &impl Print,
+    rt: &(impl Env + Print),
     f: &[u8],
     header: Header,
     fact: Fact,
@@ -120,7 +121,7 @@ fn put_default(
 
 // The value of a field: the next that is stored, or the one by default.
 fn write_start(
-    rt: &impl Print,
+    rt: &(impl Env + Print),
     f: &[u8],
     header: Header,
     handles: u32,
@@ -150,7 +151,7 @@ fn write_start(
 
 // All lines of a field: flags, type, value, annotations.
 fn write_field(
-    rt: &impl Print,
+    rt: &(impl Env + Print),
     f: &[u8],
     header: Header,
     handles: u32,
@@ -209,7 +210,7 @@ fn kept_entry(rising: bool, entry: u32) -> u32 {
 
 // The static fields of a class, each behind the one before.
 fn write_fields(
-    rt: &impl Print,
+    rt: &(impl Env + Print),
     f: &[u8],
     header: Header,
     handles: u32,
@@ -267,7 +268,7 @@ fn write_fields(
 
 // The annotations of a class.
 fn write_own(
-    rt: &impl Print,
+    rt: &(impl Env + Print),
     f: &[u8],
     header: Header,
     handles: u32,
@@ -292,7 +293,7 @@ fn write_own(
 
 // Class n.
 fn write_class(
-    rt: &impl Print,
+    rt: &(impl Env + Print),
     f: &[u8],
     header: Header,
     handles: u32,
@@ -314,7 +315,7 @@ fn write_class(
 
 // All classes.
 pub fn write_classes(
-    rt: &impl Print,
+    rt: &(impl Env + Print),
     f: &[u8],
     header: Header,
     out: &mut [u8],

@@ -19,7 +19,7 @@ mod names;
 mod values;
 
 // The heading of a file that is named, and its register. Standard input has an empty name.
-fn write_register(rt: &impl Print, f: &[u8], header: Header, what: &[u8], name: &[u8]) -> u8
+fn write_register(rt: &(impl Env + Print), f: &[u8], header: Header, what: &[u8], name: &[u8]) -> u8
     ensures { Ended result }
 {
     let mut out = [0u8; lines::SPACE];
@@ -29,7 +29,7 @@ fn write_register(rt: &impl Print, f: &[u8], header: Header, what: &[u8], name: 
 }
 
 // Checks an input that was read whole, and writes its register, or its refusal.
-fn register_bytes(rt: &impl Print, f: &[u8], what: &[u8], name: &[u8]) -> u8
+fn register_bytes(rt: &(impl Env + Print), f: &[u8], what: &[u8], name: &[u8]) -> u8
     ensures { Comes f.now result }
 {
     let verdict = file_report::input_verdict(f);
@@ -73,7 +73,7 @@ fn register_arguments(rt: &(impl Files + Env + Print), first: usize, count: usiz
 }
 
 // The register of standard input.
-fn register_standard(rt: &(impl std::io::Input + Print)) -> u8 {
+fn register_standard(rt: &(impl Env + std::io::Input + Print)) -> u8 {
     let mut room = [0u8; ROOM];
     let input = checking::read_standard(rt, &mut room);
     let n = input.length;

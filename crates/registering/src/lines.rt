@@ -3,6 +3,7 @@
 ghost use Rattle.registering.specs.Ends.{Ended};
 
 use report::ReportAnswer;
+use std::env::Env;
 
 // How large the room is.
 pub const SPACE: usize = 16384;
@@ -15,7 +16,7 @@ const UNWRITTEN: usize = 1048577;
 pub const UNREAD: usize = 1048578;
 
 // Writes what is there.
-pub fn flush(rt: &impl Print, out: &[u8], used: usize) -> usize {
+pub fn flush(rt: &(impl Env + Print), out: &[u8], used: usize) -> usize {
     if out.len() < used {
         return used;
     }
@@ -26,7 +27,7 @@ pub fn flush(rt: &impl Print, out: &[u8], used: usize) -> usize {
 }
 
 // Room for what is put at once.
-fn reserve(rt: &impl Print, out: &[u8], used: usize) -> usize {
+fn reserve(rt: &(impl Env + Print), out: &[u8], used: usize) -> usize {
     if out.len() < LEAST {
         return UNREAD;
     }
@@ -53,7 +54,7 @@ fn after(used: usize, answer: ReportAnswer) -> usize {
 }
 
 // A word of the format.
-pub fn put(rt: &impl Print, word: &[u8], out: &mut [u8], used: usize) -> usize {
+pub fn put(rt: &(impl Env + Print), word: &[u8], out: &mut [u8], used: usize) -> usize {
     let p = reserve(rt, out, used);
     if out.len() <= p {
         return p;
@@ -62,7 +63,7 @@ pub fn put(rt: &impl Print, word: &[u8], out: &mut [u8], used: usize) -> usize {
 }
 
 // A number.
-pub fn put_number(rt: &impl Print, n: u64, out: &mut [u8], used: usize) -> usize {
+pub fn put_number(rt: &(impl Env + Print), n: u64, out: &mut [u8], used: usize) -> usize {
     let p = reserve(rt, out, used);
     if out.len() <= p {
         return p;
@@ -71,7 +72,7 @@ pub fn put_number(rt: &impl Print, n: u64, out: &mut [u8], used: usize) -> usize
 }
 
 // A signed number.
-pub fn put_integer(rt: &impl Print, n: i64, out: &mut [u8], used: usize) -> usize {
+pub fn put_integer(rt: &(impl Env + Print), n: i64, out: &mut [u8], used: usize) -> usize {
     let p = reserve(rt, out, used);
     if out.len() <= p {
         return p;
@@ -80,7 +81,13 @@ pub fn put_integer(rt: &impl Print, n: i64, out: &mut [u8], used: usize) -> usiz
 }
 
 // A magnitude with its sign.
-pub fn put_signed(rt: &impl Print, negative: bool, n: u64, out: &mut [u8], used: usize) -> usize {
+pub fn put_signed(
+    rt: &(impl Env + Print),
+    negative: bool,
+    n: u64,
+    out: &mut [u8],
+    used: usize,
+) -> usize {
     let p = reserve(rt, out, used);
     if out.len() <= p {
         return p;
@@ -89,7 +96,13 @@ pub fn put_signed(rt: &impl Print, negative: bool, n: u64, out: &mut [u8], used:
 }
 
 // Bits, in so many hexadecimal digits.
-pub fn put_bits(rt: &impl Print, n: u64, digits: usize, out: &mut [u8], used: usize) -> usize {
+pub fn put_bits(
+    rt: &(impl Env + Print),
+    n: u64,
+    digits: usize,
+    out: &mut [u8],
+    used: usize,
+) -> usize {
     let p = reserve(rt, out, used);
     if out.len() <= p {
         return p;
@@ -98,7 +111,13 @@ pub fn put_bits(rt: &impl Print, n: u64, digits: usize, out: &mut [u8], used: us
 }
 
 // A text, of any length, piece by piece; `key` for a name of a key.
-pub fn put_text(rt: &impl Print, text: &[u8], key: bool, out: &mut [u8], used: usize) -> usize {
+pub fn put_text(
+    rt: &(impl Env + Print),
+    text: &[u8],
+    key: bool,
+    out: &mut [u8],
+    used: usize,
+) -> usize {
     let mut i: usize = 0;
     let mut p = used;
     while i < text.len() {
@@ -117,7 +136,7 @@ pub fn put_text(rt: &impl Print, text: &[u8], key: bool, out: &mut [u8], used: u
 }
 
 // The bytes of a name as they are.
-fn put_bytes(rt: &impl Print, name: &[u8], out: &mut [u8], used: usize) -> usize {
+fn put_bytes(rt: &(impl Env + Print), name: &[u8], out: &mut [u8], used: usize) -> usize {
     let mut p = used;
     let mut i: usize = 0;
     while i < name.len() {
@@ -128,7 +147,7 @@ fn put_bytes(rt: &impl Print, name: &[u8], out: &mut [u8], used: usize) -> usize
 }
 
 // The line of a file's name, where it has one.
-pub fn put_heading(rt: &impl Print, name: &[u8], out: &mut [u8]) -> usize {
+pub fn put_heading(rt: &(impl Env + Print), name: &[u8], out: &mut [u8]) -> usize {
     if name.len() == 0 {
         return 0;
     }

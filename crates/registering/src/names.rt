@@ -3,11 +3,12 @@ use super::lines;
 use super::lines::UNREAD;
 use header::Header;
 use ids::{IndexAnswer, MemberId, MemberIdAnswer};
+use std::env::Env;
 use text::TextAnswer;
 
 // String n.
 pub fn put_string(
-    rt: &impl Print,
+    rt: &(impl Env + Print),
     f: &[u8],
     header: Header,
     n: u32,
@@ -33,7 +34,7 @@ pub fn type_string(f: &[u8], header: Header, n: u32) -> IndexAnswer {
 
 // The text of type n.
 pub fn put_type(
-    rt: &impl Print,
+    rt: &(impl Env + Print),
     f: &[u8],
     header: Header,
     n: u32,
@@ -48,7 +49,7 @@ pub fn put_type(
 
 // A tab, and the text of string n.
 fn put_string_column(
-    rt: &impl Print,
+    rt: &(impl Env + Print),
     f: &[u8],
     header: Header,
     n: u32,
@@ -61,7 +62,7 @@ fn put_string_column(
 
 // A tab, and the text of type n.
 pub fn put_type_column(
-    rt: &impl Print,
+    rt: &(impl Env + Print),
     f: &[u8],
     header: Header,
     n: u32,
@@ -73,7 +74,7 @@ pub fn put_type_column(
 }
 
 // A tab, and a number.
-pub fn put_number_column(rt: &impl Print, n: u64, out: &mut [u8], used: usize) -> usize {
+pub fn put_number_column(rt: &(impl Env + Print), n: u64, out: &mut [u8], used: usize) -> usize {
     let p = lines::put(rt, b"\t", out, used);
     lines::put_number(rt, n, out, p)
 }
@@ -93,7 +94,7 @@ pub fn field_of(f: &[u8], header: Header, n: u32) -> MemberIdAnswer {
 
 // Class and name of a member.
 fn put_member(
-    rt: &impl Print,
+    rt: &(impl Env + Print),
     f: &[u8],
     header: Header,
     m: MemberId,
@@ -106,7 +107,7 @@ fn put_member(
 
 // Class, name and type of field n.
 pub fn put_field(
-    rt: &impl Print,
+    rt: &(impl Env + Print),
     f: &[u8],
     header: Header,
     n: u32,
@@ -124,7 +125,7 @@ pub fn put_field(
 
 // Class, name and proto number of method n.
 pub fn put_method(
-    rt: &impl Print,
+    rt: &(impl Env + Print),
     f: &[u8],
     header: Header,
     n: u32,
@@ -150,7 +151,7 @@ pub fn put_method(
 
 // The text of string n, as a column.
 pub fn put_text_column(
-    rt: &impl Print,
+    rt: &(impl Env + Print),
     f: &[u8],
     header: Header,
     n: u32,

@@ -6,6 +6,7 @@ use encoded_value::DEEPEST_VALUE;
 use header::Header;
 use leb128::LebAnswer;
 use register_text::Whole;
+use std::env::Env;
 use value_heads::{HeadByteAnswer, Walk};
 
 // How many bodies may be open in a value.
@@ -51,7 +52,7 @@ struct Entered {
 
 // The class and the field, each with a tab behind it.
 pub fn put_owner(
-    rt: &impl Print,
+    rt: &(impl Env + Print),
     f: &[u8],
     header: Header,
     fact: Fact,
@@ -69,7 +70,7 @@ pub fn put_owner(
 
 // The front of a line up to its key: class, field and the fact.
 pub fn put_fact(
-    rt: &impl Print,
+    rt: &(impl Env + Print),
     f: &[u8],
     header: Header,
     fact: Fact,
@@ -89,7 +90,7 @@ pub fn put_fact(
 
 // A step of a key.
 fn put_step(
-    rt: &impl Print,
+    rt: &(impl Env + Print),
     f: &[u8],
     header: Header,
     step: u64,
@@ -107,7 +108,7 @@ fn put_step(
 
 // The key of a value in a value: the fact, and the steps to it.
 fn put_key(
-    rt: &impl Print,
+    rt: &(impl Env + Print),
     f: &[u8],
     header: Header,
     fact: Fact,
@@ -129,30 +130,36 @@ fn put_key(
 }
 
 // A word, and a signed number.
-fn put_signed_number(rt: &impl Print, word: &[u8], n: i64, out: &mut [u8], used: usize) -> usize {
+fn put_signed_number(
+    rt: &(impl Env + Print),
+    word: &[u8],
+    n: i64,
+    out: &mut [u8],
+    used: usize,
+) -> usize {
     let p = lines::put(rt, word, out, used);
     lines::put_integer(rt, n, out, p)
 }
 
-fn put_byte(rt: &impl Print, n: i8, out: &mut [u8], used: usize) -> usize {
+fn put_byte(rt: &(impl Env + Print), n: i8, out: &mut [u8], used: usize) -> usize {
     put_signed_number(rt, b"\tbyte\t", n as i64, out, used)
 }
 
-fn put_short(rt: &impl Print, n: i16, out: &mut [u8], used: usize) -> usize {
+fn put_short(rt: &(impl Env + Print), n: i16, out: &mut [u8], used: usize) -> usize {
     put_signed_number(rt, b"\tshort\t", n as i64, out, used)
 }
 
-fn put_int(rt: &impl Print, n: i32, out: &mut [u8], used: usize) -> usize {
+fn put_int(rt: &(impl Env + Print), n: i32, out: &mut [u8], used: usize) -> usize {
     put_signed_number(rt, b"\tint\t", n as i64, out, used)
 }
 
-fn put_char(rt: &impl Print, n: u16, out: &mut [u8], used: usize) -> usize {
+fn put_char(rt: &(impl Env + Print), n: u16, out: &mut [u8], used: usize) -> usize {
     let p = lines::put(rt, b"\tchar\t", out, used);
     lines::put_number(rt, n as u64, out, p)
 }
 
 // The whole number of a float, where it is one, in a column more.
-fn put_whole(rt: &impl Print, whole: Whole, out: &mut [u8], used: usize) -> usize {
+fn put_whole(rt: &(impl Env + Print), whole: Whole, out: &mut [u8], used: usize) -> usize {
     match whole {
         Whole::Absent => used,
         Whole::Number {
@@ -165,13 +172,13 @@ fn put_whole(rt: &impl Print, whole: Whole, out: &mut [u8], used: usize) -> usiz
     }
 }
 
-fn put_float(rt: &impl Print, bits: u32, out: &mut [u8], used: usize) -> usize {
+fn put_float(rt: &(impl Env + Print), bits: u32, out: &mut [u8], used: usize) -> usize {
     let p = lines::put(rt, b"\tfloat\t", out, used);
     let q = lines::put_bits(rt, bits as u64, 8, out, p);
     put_whole(rt, register_text::whole_of_float(bits), out, q)
 }
 
-fn put_double(rt: &impl Print, bits: u64, out: &mut [u8], used: usize) -> usize {
+fn put_double(rt: &(impl Env + Print), bits: u64, out: &mut [u8], used: usize) -> usize {
     let p = lines::put(rt, b"\tdouble\t", out, used);
     let q = lines::put_bits(rt, bits, 16, out, p);
     put_whole(rt, register_text::whole_of_double(bits), out, q)
@@ -179,7 +186,7 @@ fn put_double(rt: &impl Print, bits: u64, out: &mut [u8], used: usize) -> usize 
 
 // A value that is an index, by its kind.
 fn put_index(
-    rt: &impl Print,
+    rt: &(impl Env + Print),
     f: &[u8],
     header: Header,
     kind: u32,
@@ -208,7 +215,7 @@ fn put_index(
 
 // A field, an enum or a method.
 fn put_member_index(
-    rt: &impl Print,
+    rt: &(impl Env + Print),
     f: &[u8],
     header: Header,
     kind: u32,
@@ -228,7 +235,7 @@ fn put_member_index(
     names::put_field(rt, f, header, n, out, p)
 }
 
-fn put_truth(rt: &impl Print, b: bool, out: &mut [u8], used: usize) -> usize {
+fn put_truth(rt: &(impl Env + Print), b: bool, out: &mut [u8], used: usize) -> usize {
     if b {
         return lines::put(rt, b"\tboolean\t1", out, used);
     }
@@ -237,7 +244,7 @@ fn put_truth(rt: &impl Print, b: bool, out: &mut [u8], used: usize) -> usize {
 
 // A value that opens no body: its kind and its parts.
 fn put_plain(
-    rt: &impl Print,
+    rt: &(impl Env + Print),
     f: &[u8],
     header: Header,
     value: Value,
@@ -268,7 +275,7 @@ fn put_plain(
 
 // The rest of a line: a value that opens no body.
 pub fn put_value(
-    rt: &impl Print,
+    rt: &(impl Env + Print),
     f: &[u8],
     header: Header,
     value: Value,
@@ -291,7 +298,7 @@ fn stopped(at: usize) -> Shown {
 
 // The rest of the line of an array, whose size is at a place.
 fn show_array(
-    rt: &impl Print,
+    rt: &(impl Env + Print),
     s: &[u8],
     item: usize,
     at: usize,
@@ -316,7 +323,7 @@ fn show_array(
 
 // The rest of the line of an annotation that is a value: its type and its size are at a place.
 fn show_annotation(
-    rt: &impl Print,
+    rt: &(impl Env + Print),
     f: &[u8],
     header: Header,
     w: Walk,
@@ -350,7 +357,7 @@ fn show_annotation(
 
 // The rest of the line of a value that opens no body, at a place.
 fn show_plain(
-    rt: &impl Print,
+    rt: &(impl Env + Print),
     f: &[u8],
     header: Header,
     w: Walk,
@@ -372,7 +379,7 @@ fn show_plain(
 
 // The rest of the line of the value at a place.
 fn show(
-    rt: &impl Print,
+    rt: &(impl Env + Print),
     f: &[u8],
     header: Header,
     w: Walk,
@@ -418,7 +425,7 @@ fn opened(named: bool) -> u64 {
 
 // A line: the next value of the body that was opened last, which stands at a place.
 fn write_step(
-    rt: &impl Print,
+    rt: &(impl Env + Print),
     f: &[u8],
     header: Header,
     w: Walk,
@@ -444,7 +451,7 @@ fn write_step(
 
 // The values of the bodies that are open, and all that is in them. Each lies behind the one before, which is tested; a body that ends closes a step.
 fn write_open(
-    rt: &impl Print,
+    rt: &(impl Env + Print),
     f: &[u8],
     header: Header,
     w: Walk,
@@ -499,7 +506,7 @@ fn write_open(
 
 // The values of a body and all that is in them.
 pub fn write_values(
-    rt: &impl Print,
+    rt: &(impl Env + Print),
     f: &[u8],
     header: Header,
     w: Walk,
@@ -521,7 +528,7 @@ pub fn write_values(
 
 // The value at a place, with the front of its line, and all that is in it.
 pub fn write_value(
-    rt: &impl Print,
+    rt: &(impl Env + Print),
     f: &[u8],
     header: Header,
     w: Walk,
