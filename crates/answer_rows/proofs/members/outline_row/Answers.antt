@@ -1,0 +1,7 @@
+use Rattle.answer_rows.proofs.MemberLaws.{arms as laws}
+use Rattle.answer_rows.specs.Words.{outline_words}
+use Rattle.answer_rows.proofs.members.outline_row.Goals as goal
+
+pub returns : goal.returns
+unfolding outline_words
+returns c = search laws

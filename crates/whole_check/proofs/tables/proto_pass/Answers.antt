@@ -1,0 +1,8 @@
+use Rattle.whole_check.proofs.TableLaws.{laws}
+use Rattle.whole_check.proofs.tables.proto_pass.Goals as goal
+
+pub returns-in-Refused : goal.returns-in-Refused
+returns-in-Refused c = search laws depth 7
+
+pub returns-in-Got : goal.returns-in-Got
+returns-in-Got c = search laws depth 7
