@@ -70,6 +70,7 @@ row_at ends (first {a = b} {from = p} {t = t} h r) (there m) =
     let e = (ends p b t h).after_place in
     let x = i.2.1 in
     (i.0, i.1, (i.2.0, omega arith))
+row_at {A = A} {s = s} {P = P} {k = k} {a = a} ends (Rattle.refusal.specs.Exact.empty {from = from}) x11 = elim x11 [ ]
 
 module _ (f : List ℕ) {r : File} (reads : Reads f r) where
   abbrev pub walk : ℕ → Walk
