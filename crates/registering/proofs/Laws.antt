@@ -2,15 +2,12 @@
 -- Assumes nothing.
 use Rattle.std.proofs.Common.{◌≡◌, ℕ, ◌+◌, ◌-◌, ◌*◌, ◌<◌, ◌≤◌, Bool, List, length, take, drop, ℤ, pos, negsuc, sym, refl, ap, ◌∙◌, arith, length-drop, length-take-le, take_all, w8, w16, w32, w64, Fits, SFits, to_z, of_z, rules}
 use mir.ValLaws.{to_z-of_z}
-use Rattle.refusal.specs.Outcome.{Outcome}
-use Rattle.refusal.specs.declared.Refusal.{Refusal}
 use Rattle.header.specs.declared.Header.{Header}
 use Rattle.verdict.specs.declared.Verdict.{Verdict}
 use Rattle.verdict.specs.declared.Verdict as D
 use Rattle.verdict.specs.Answers.{verdict_outcome}
 use Rattle.file_report.specs.Input.{input_at}
-use Rattle.named_report.specs.Output.{status}
-use Rattle.checking.specs.Status.{Tells, said, unsaid, Comes, Within}
+use Rattle.checking.specs.Status.{Tells, said, unsaid, Comes}
 use Rattle.checking.proofs.Laws.{comes, laws as checking-laws}
 use Rattle.register_text.specs.Escapes.{Pieced}
 use Rattle.register_text.proofs.Laws.{piece_fits, piece_goes_on}

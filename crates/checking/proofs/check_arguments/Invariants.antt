@@ -1,9 +1,6 @@
 use Prim.Native.Nat.{◌-◌}
 use lib.ListN.{length}
 use mathlib.Core.Path.{◌≡◌}
-use Rattle.std.proofs.Common.{◌≤◌, max, IfOk, ℕ, ◌+◌, ◌*◌, ◌<◌}
-use Rattle.verdict.specs.Answers.{verdict_outcome}
-use Rattle.checking.specs.Status.{digit, Tells, Comes, Within}
 use Rattle.checking.proofs.check_arguments.Given as goal
 
 abbrev pub invariant-loop-i : goal.invariant-loop-i

@@ -1,8 +1,5 @@
 use lib.ListN.{length}
 use Prim.Native.Nat.{◌-◌, ◌≤◌}
-use Rattle.std.proofs.Common.{◌≡◌, max, IfOk, ℕ, ◌+◌, ◌*◌, ◌<◌}
-use Rattle.verdict.specs.Answers.{verdict_outcome}
-use Rattle.checking.specs.Status.{digit, Tells, Comes, Within}
 use Rattle.checking.proofs.show_name.Given as goal
 
 abbrev pub invariant-loop-i : goal.invariant-loop-i

@@ -1,7 +1,4 @@
 use Rattle.std.proofs.Common.{◌≡◌, ◌-◌, length}
-use Rattle.std.proofs.Common.{ℕ, ◌+◌, ◌*◌, ◌<◌, ◌≤◌}
-use Rattle.checking.specs.Status.{Comes}
-use Rattle.registering.specs.Ends.{Ended}
 use Rattle.registering.proofs.register_arguments.Given as goal
 
 abbrev pub invariant-loop-i : goal.invariant-loop-i

@@ -1,9 +1,6 @@
 use Prim.Native.Nat.{◌-◌}
 use lib.ListN.{length}
 use Rattle.asking.proofs.LineLaws.{Laying}
-use Rattle.std.proofs.Common.{◌≡◌, [], ◌∷◌, ◌+◌, ◌*◌, ◌≤◌, ℕ, ◌<◌}
-use Rattle.report.specs.Stored.{Stored}
-use Rattle.asking.specs.Lines.{line, marked, chosen, Spelt, Laid}
 use Rattle.asking.proofs.lines.words_into.Given as goal
 
 abbrev pub invariant-loop-i : goal.invariant-loop-i

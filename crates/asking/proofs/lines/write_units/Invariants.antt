@@ -1,10 +1,5 @@
 use lib.ListN.{length}
 use Prim.Native.Nat.{◌-◌}
-use borrow.Author.Rules.{rules}
-use Rattle.asking.proofs.LineLaws.{unit_fits}
-use Rattle.std.proofs.Common.{◌≡◌, [], ◌∷◌, ◌+◌, ◌*◌, ◌≤◌, ℕ, ◌<◌}
-use Rattle.report.specs.Stored.{Stored}
-use Rattle.asking.specs.Lines.{line, marked, chosen, Spelt, Laid}
 use Rattle.asking.proofs.lines.write_units.Given as goal
 
 abbrev pub invariant-loop-i : goal.invariant-loop-i

@@ -1,10 +1,6 @@
 use Prim.Native.Nat.{◌≤◌}
 use mathlib.Core.Path.{◌≡◌}
 use lib.ListN.{length}
-use borrow.Author.Rules.{rules}
-use Rattle.std.proofs.Common.{◌+◌, ◌-◌, ◌*◌, ◌<◌, ℕ}
-use Rattle.word.specs.Bytes.{part}
-use Rattle.asking.specs.Turns.{turn_of, to_go}
 use Rattle.asking.proofs.turns.first_of.Given as goal
 
 abbrev pub invariant-loop-left : goal.invariant-loop-left

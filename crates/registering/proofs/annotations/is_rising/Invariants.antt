@@ -1,5 +1,4 @@
 use Rattle.std.proofs.Common.{◌-◌}
-use Rattle.std.proofs.Common.{◌≡◌, ℕ, ◌+◌, ◌*◌, ◌<◌, ◌≤◌, length}
 use Rattle.registering.proofs.annotations.is_rising.Given as goal
 
 abbrev pub invariant-loop-k : goal.invariant-loop-k

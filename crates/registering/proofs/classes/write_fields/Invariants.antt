@@ -1,5 +1,4 @@
 use Rattle.std.proofs.Common.{◌≡◌, length}
-use Rattle.std.proofs.Common.{ℕ, ◌+◌, ◌-◌, ◌*◌, ◌<◌, ◌≤◌}
 use Rattle.registering.proofs.classes.write_fields.Given as goal
 
 abbrev pub invariant-loop-left : goal.invariant-loop-left

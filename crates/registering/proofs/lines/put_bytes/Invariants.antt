@@ -1,6 +1,4 @@
 use Rattle.std.proofs.Common.{◌≡◌, ◌-◌, length}
-use Rattle.std.proofs.Common.{ℕ, ◌+◌, ◌*◌, ◌<◌, ◌≤◌}
-use Rattle.registering.specs.Ends.{Ended}
 use Rattle.registering.proofs.lines.put_bytes.Given as goal
 
 abbrev pub invariant-loop-i : goal.invariant-loop-i

@@ -1,5 +1,4 @@
 use Rattle.std.proofs.Common.{◌≡◌, ◌-◌, length}
-use Rattle.std.proofs.Common.{ℕ, ◌+◌, ◌*◌, ◌<◌, ◌≤◌}
 use Rattle.registering.proofs.values.put_key.Given as goal
 
 abbrev pub invariant-loop-i : goal.invariant-loop-i

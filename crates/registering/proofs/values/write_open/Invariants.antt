@@ -1,5 +1,4 @@
 use Rattle.std.proofs.Common.{◌≡◌, ◌+◌, ◌-◌, ◌*◌, ◌≤◌, length}
-use Rattle.std.proofs.Common.{ℕ, ◌<◌}
 use Rattle.registering.proofs.values.write_open.Given as goal
 
 abbrev pub invariant-loop-depth : goal.invariant-loop-depth
