@@ -1,8 +1,11 @@
 use mathlib.Core.Path.{◌≡◌}
 use lib.ListN.{length}
 use Rattle.asking.specs.Turns.{to_go}
-use Rattle.std.proofs.Common.{◌-◌, ℕ, ◌+◌, ◌*◌, ◌<◌, ◌≤◌}
 use Rattle.readers_run.proofs.main.Given as goal
+
+<<<<<<< HEAD
+=======
+>>>>>>> afca4d5d4f292867f179b1d94f562f4439adda68
 
 abbrev pub invariant-loop-turn : goal.invariant-loop-turn
 invariant-loop-turn l = 65536 ≡ length l.room

@@ -1,8 +1,12 @@
-use borrow.Author.Rules.{rules}
 use lib.ListN.{length}
 use Prim.Native.Nat.{◌-◌}
-use Rattle.std.proofs.Common.{◌≡◌, ℕ, ◌+◌, ◌*◌, ◌<◌, ◌≤◌}
+use lib.ListN.{length}
+use Prim.Native.Nat.{◌-◌}
 use Rattle.readers_run.proofs.values.inner_row.Given as goal
+
+<<<<<<< HEAD
+=======
+>>>>>>> afca4d5d4f292867f179b1d94f562f4439adda68
 
 abbrev pub invariant-loop-i : goal.invariant-loop-i
 invariant-loop-i l = Unit
