@@ -3,10 +3,6 @@ use lib.ListN.{length}
 use Rattle.asking.specs.Turns.{to_go}
 use Rattle.items_run.proofs.main.Given as goal
 
-<<<<<<< HEAD
-=======
->>>>>>> afca4d5d4f292867f179b1d94f562f4439adda68
-
 abbrev pub invariant-loop-turn : goal.invariant-loop-turn
 invariant-loop-turn l = 65536 ≡ length l.room
 

@@ -1,12 +1,6 @@
 use lib.ListN.{length}
 use Prim.Native.Nat.{◌-◌}
-use lib.ListN.{length}
-use Prim.Native.Nat.{◌-◌}
 use Rattle.readers_run.proofs.values.inner_row.Given as goal
-
-<<<<<<< HEAD
-=======
->>>>>>> afca4d5d4f292867f179b1d94f562f4439adda68
 
 abbrev pub invariant-loop-i : goal.invariant-loop-i
 invariant-loop-i l = Unit
