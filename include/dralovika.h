@@ -1,9 +1,9 @@
 /*
  * Dralovika: a proved reader of DEX files, for C and C++.
  *
- * Link with libdralovika.a (`rt lib` in crates/dralovika writes it for x86-64, into its out/, and compare/build for the machine at hand). It needs no other
- * library. Nothing is allocated, nothing is kept between calls, no call waits or fails: a function reads the lent file and writes its answer. Any bytes may
- * be given as a file, and any numbers. examples/check.c is a whole program.
+ * Link with libdralovika.a (`rt lib` in crates/dralovika writes it for x86-64, into its out/, as compare/build does). It needs no other library. Nothing is
+ * allocated, nothing is kept between calls, no call waits or fails: a function reads the lent file and writes its answer. Any bytes may be given as a file,
+ * and any numbers. examples/check.c is a whole program.
  *
  * ---- Memory
  *
