@@ -1,8 +1,8 @@
 -- What the answers of the code say.
-use Rattle.std.specs.Prelude.{ℕ}
-use Rattle.refusal.specs.Outcome.{Outcome, answer, refused}
-use Rattle.access_flags.specs.declared.FlagsAnswer as F
+use Rattle.std.specs.Prelude.{ℕ, Result}
+use Rattle.refusal.specs.Outcome.{Outcome}
+use Rattle.refusal.specs.Answers.{outcome}
+use Rattle.refusal.specs.declared.Refusal.{Refusal}
 
-abbrev pub flags_outcome : F.FlagsAnswer → Outcome ℕ
-flags_outcome (F.TheVariants.Got n) = answer n
-flags_outcome (F.TheVariants.Refused r) = refused r
+abbrev pub flags_outcome : Result ℕ Refusal → Outcome ℕ
+flags_outcome = outcome (λ (n : ℕ). n)

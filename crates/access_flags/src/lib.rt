@@ -10,12 +10,6 @@ use refusal::Refusal;
 // Bit numbers 0 to 17: `flag_bits` in the definitions.
 const FLAG_BITS: u32 = 18;
 
-#[derive(Clone, Copy)]
-pub enum FlagsAnswer {
-    Got(usize),
-    Refused(Refusal),
-}
-
 // Is bit i, the lowest of v, handed out: of classes bits 6 and 7 are not.
 fn is_kept(class: bool, i: u8, v: u32) -> bool
     ensures { result ≡ kept class i v }
@@ -80,14 +74,14 @@ fn fill(value: u32, class: bool, out: &mut [u8])
 }
 
 // The bit numbers of the flags, rising: how many, or 19, writing nothing, where the output is shorter.
-pub fn flags_into(value: u32, class: bool, out: &mut [u8]) -> FlagsAnswer
+pub fn flags_into(value: u32, class: bool, out: &mut [u8]) -> Result<usize, Refusal>
     ensures answer { flags_outcome result ≡ written class value (length out.old) }
     ensures content { out.new ≡ content class value out.old }
 {
     let n = count_of(value, class);
     if out.len() < n {
-        return FlagsAnswer::Refused(refusal::no_room());
+        return Err(refusal::no_room());
     }
     fill(value, class, out);
-    FlagsAnswer::Got(n)
+    Ok(n)
 }

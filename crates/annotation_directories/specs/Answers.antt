@@ -1,14 +1,14 @@
 -- What the answers of the code say.
-use Rattle.refusal.specs.Outcome.{Outcome, answer, refused}
+use Rattle.refusal.specs.Outcome.{Outcome}
 use Rattle.annotation_directories.specs.declared.DirectoryHead.{DirectoryHead}
 use Rattle.annotation_directories.specs.Directories.{DirectoryEntry}
-use Rattle.annotation_directories.specs.declared.DirectoryEntryAnswer as E
-use Rattle.annotation_directories.specs.declared.DirectoryHeadAnswer as H
+use Rattle.std.specs.Prelude.{Result}
+use Rattle.refusal.specs.Answers.{outcome}
+use Rattle.refusal.specs.declared.Refusal.{Refusal}
+use Rattle.annotation_directories.specs.declared.DirectoryEntry as D
 
-abbrev pub directory_entry_outcome : E.DirectoryEntryAnswer → Outcome DirectoryEntry
-directory_entry_outcome (E.TheVariants.Got i o) = answer (record { index = i; offset = o })
-directory_entry_outcome (E.TheVariants.Refused r) = refused r
+abbrev pub directory_entry_outcome : Result D.DirectoryEntry Refusal → Outcome DirectoryEntry
+directory_entry_outcome = outcome (λ (x : D.DirectoryEntry). record { index = x.index; offset = x.offset })
 
-abbrev pub directory_head_outcome : H.DirectoryHeadAnswer → Outcome DirectoryHead
-directory_head_outcome (H.TheVariants.Got h) = answer h
-directory_head_outcome (H.TheVariants.Refused r) = refused r
+abbrev pub directory_head_outcome : Result DirectoryHead Refusal → Outcome DirectoryHead
+directory_head_outcome = outcome (λ (h : DirectoryHead). h)

@@ -9,16 +9,14 @@ ghost use Rattle.annotation_directories.specs.Directories.{count_of, before_of, 
 ghost use Rattle.refusal.specs.Answers.{checked_outcome};
 ghost use Rattle.annotation_directories.specs.Answers.{directory_entry_outcome, directory_head_outcome};
 
-use annotation_lists::WordAnswer;
-use encoded_value::StepAnswer;
 use frame::Frame;
-use refusal::{CheckAnswer, Refusal};
+use refusal::Refusal;
 
 // A field or method, and where its set or reference list is.
 #[derive(Clone, Copy)]
-pub enum DirectoryEntryAnswer {
-    Got { index: u32, offset: u32 },
-    Refused(Refusal),
+pub struct DirectoryEntry {
+    pub index: u32,
+    pub offset: u32,
 }
 
 // A directory's head: where the class annotations are (0 for none), and how many fields, methods and parameter entries follow.
@@ -30,51 +28,35 @@ pub struct DirectoryHead {
     pub parameters: u32,
 }
 
-#[derive(Clone, Copy)]
-pub enum DirectoryHeadAnswer {
-    Got(DirectoryHead),
-    Refused(Refusal),
-}
-
 // The three counts behind the class annotations' offset.
-fn counts_at(s: &[u8], frame: Frame, item: usize, set: u32) -> DirectoryHeadAnswer
+fn counts_at(s: &[u8], frame: Frame, item: usize, set: u32) -> Result<DirectoryHead, Refusal>
     requires { item + 4 ≤ length s.now }
     ensures { directory_head_outcome result ≡ counts_at s.now frame item set }
 {
-    match annotation_lists::word_at(s, frame, item, item + 4) {
-        WordAnswer::Refused(r) => DirectoryHeadAnswer::Refused(r),
-        WordAnswer::Got(fields) => match annotation_lists::word_at(s, frame, item, item + 8) {
-            WordAnswer::Refused(r) => DirectoryHeadAnswer::Refused(r),
-            WordAnswer::Got(methods) => match annotation_lists::word_at(s, frame, item, item + 12) {
-                WordAnswer::Refused(r) => DirectoryHeadAnswer::Refused(r),
-                WordAnswer::Got(parameters) => DirectoryHeadAnswer::Got(DirectoryHead {
+    let fields = annotation_lists::word_at(s, frame, item, item + 4)?;
+let methods = annotation_lists::word_at(s, frame, item, item + 8)?;
+let parameters = annotation_lists::word_at(s, frame, item, item + 12)?;
+Ok(DirectoryHead {
                     set,
                     fields,
                     methods,
                     parameters,
-                }),
-            },
-        },
-    }
+                })
 }
 
 // The head, field by field.
-fn head_at(s: &[u8], frame: Frame, item: usize) -> DirectoryHeadAnswer
+fn head_at(s: &[u8], frame: Frame, item: usize) -> Result<DirectoryHead, Refusal>
     ensures { directory_head_outcome result ≡ head_at s.now frame item }
 {
-    match annotation_lists::word_at(s, frame, item, item) {
-        WordAnswer::Refused(r) => DirectoryHeadAnswer::Refused(r),
-        WordAnswer::Got(set) => {
-            if frame::is_allowed_or_absent(frame.start, s.len(), true, set as usize) {
+    let set = annotation_lists::word_at(s, frame, item, item)?;
+if frame::is_allowed_or_absent(frame.start, s.len(), true, set as usize) {
                 return counts_at(s, frame, item, set);
             }
-            DirectoryHeadAnswer::Refused(refusal::wrong_offset(item))
-        }
-    }
+            Err(refusal::wrong_offset(item))
 }
 
 // The entry at a place: its index below a limit, then its offset.
-fn entry_at(s: &[u8], frame: Frame, item: usize, limit: u32, at: usize) -> DirectoryEntryAnswer
+fn entry_at(s: &[u8], frame: Frame, item: usize, limit: u32, at: usize) -> Result<DirectoryEntry, Refusal>
     requires { at + 8 ≤ length s.now }
     ensures { directory_entry_outcome result ≡ entry_at s.now frame item limit at }
 {
@@ -83,11 +65,11 @@ fn entry_at(s: &[u8], frame: Frame, item: usize, limit: u32, at: usize) -> Direc
     let offset = word::u32_at(s, at + 4, order);
     if index < limit {
         if frame::is_allowed(frame.start, s.len(), true, offset as usize) {
-            return DirectoryEntryAnswer::Got { index, offset };
+            return Ok(DirectoryEntry { index, offset });
         }
-        return DirectoryEntryAnswer::Refused(refusal::wrong_offset(item));
+        return Err(refusal::wrong_offset(item));
     }
-    DirectoryEntryAnswer::Refused(refusal::wrong_index(item))
+    Err(refusal::wrong_index(item))
 }
 
 // All entries from a place on, which lie within the slice.
@@ -98,84 +80,55 @@ fn entries_pass(
     limit: u32,
     from: usize,
     count: u32,
-) -> CheckAnswer
+) -> Result<(), Refusal>
     requires { from + 8 * count ≤ length s.now }
     ensures { checked_outcome result ≡ entries_pass s.now frame item limit from count }
 {
     let mut at = from;
-    let mut left = count;
-    while 0 < left {
-        match entry_at(s, frame, item, limit, at) {
-            DirectoryEntryAnswer::Refused(r) => {
-                return CheckAnswer::Refused(r);
-            }
-            DirectoryEntryAnswer::Got {
-                index: _,
-                offset: _,
-            } => {
-                at += 8;
-            }
-        }
-        left -= 1;
+    for _ in 0..count {
+        entry_at(s, frame, item, limit, at)?;
+at += 8;
     }
-    CheckAnswer::Accepted
+    Ok(())
 }
 
 // One of the three lists, its length first: where it ends.
-fn list_past(s: &[u8], frame: Frame, item: usize, limit: u32, from: usize, count: u32) -> StepAnswer
+fn list_past(s: &[u8], frame: Frame, item: usize, limit: u32, from: usize, count: u32) -> Result<usize, Refusal>
     ensures { step_outcome result ≡ list_past s.now frame item limit from count }
 {
     let size = 8 * count as usize;
     if word::has_room(s.len(), from, size) {
-        match entries_pass(s, frame, item, limit, from, count) {
-            CheckAnswer::Refused(r) => {
-                return StepAnswer::Refused(r);
-            }
-            CheckAnswer::Accepted => {
-                return StepAnswer::Next(from + size);
-            }
-        }
+        entries_pass(s, frame, item, limit, from, count)?;
+return Ok(from + size);
     }
-    StepAnswer::Refused(refusal::runs_past(item))
+    Err(refusal::runs_past(item))
 }
 
 // Fields, methods and parameters in turn.
-fn lists_pass(s: &[u8], frame: Frame, item: usize, h: DirectoryHead) -> CheckAnswer
+fn lists_pass(s: &[u8], frame: Frame, item: usize, h: DirectoryHead) -> Result<(), Refusal>
     requires { item + 16 ≤ length s.now }
     ensures { checked_outcome result ≡ lists_pass s.now frame item h }
 {
-    match list_past(s, frame, item, frame.fields, item + 16, h.fields) {
-        StepAnswer::Refused(r) => CheckAnswer::Refused(r),
-        StepAnswer::Next(methods) => match list_past(
+    let methods = list_past(s, frame, item, frame.fields, item + 16, h.fields)?;
+let parameters = list_past(
             s,
             frame,
             item,
             frame.methods,
             methods,
             h.methods,
-        ) {
-            StepAnswer::Refused(r) => CheckAnswer::Refused(r),
-            StepAnswer::Next(parameters) => {
-                match list_past(s, frame, item, frame.methods, parameters, h.parameters) {
-                    StepAnswer::Refused(r) => CheckAnswer::Refused(r),
-                    StepAnswer::Next(_) => CheckAnswer::Accepted,
-                }
-            }
-        },
-    }
+        )?;
+list_past(s, frame, item, frame.methods, parameters, h.parameters)?;
+Ok(())
 }
 
 // The directory at a place, by its own rules: its head.
-pub fn directory(s: &[u8], frame: Frame, item: usize) -> DirectoryHeadAnswer
+pub fn directory(s: &[u8], frame: Frame, item: usize) -> Result<DirectoryHead, Refusal>
     ensures { directory_head_outcome result ≡ directory_head s.now frame item }
 {
-    match head_at(s, frame, item) {
-        DirectoryHeadAnswer::Refused(r) => DirectoryHeadAnswer::Refused(r),
-        DirectoryHeadAnswer::Got(h) => match lists_pass(s, frame, item, h) {
-            CheckAnswer::Refused(r) => DirectoryHeadAnswer::Refused(r),
-            CheckAnswer::Accepted => DirectoryHeadAnswer::Got(h),
-        },
-    }
+    let h = head_at(s, frame, item)?;
+lists_pass(s, frame, item, h)?;
+Ok(h)
 }
 
 // How many entries a list has: fields 0, methods 1, parameters 2.
@@ -224,13 +177,11 @@ pub fn directory_entry(
     item: usize,
     list: u32,
     k: u32,
-) -> DirectoryEntryAnswer
+) -> Result<DirectoryEntry, Refusal>
     ensures { directory_entry_outcome result ≡ directory_entry s.now frame item list k }
 {
-    match directory(s, frame, item) {
-        DirectoryHeadAnswer::Refused(r) => DirectoryEntryAnswer::Refused(r),
-        DirectoryHeadAnswer::Got(h) => {
-            if k < count_of(h, list) {
+    let h = directory(s, frame, item)?;
+if k < count_of(h, list) {
                 let before = before_of(h, list);
                 return entry_at(
                     s,
@@ -240,7 +191,5 @@ pub fn directory_entry(
                     item + 16 + 8 * (before + k as usize),
                 );
             }
-            DirectoryEntryAnswer::Refused(refusal::not_there())
-        }
-    }
+            Err(refusal::not_there())
 }

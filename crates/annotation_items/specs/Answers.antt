@@ -1,14 +1,13 @@
 -- What the answers of the code say.
-use Rattle.std.specs.Prelude.{ℕ}
-use Rattle.refusal.specs.Outcome.{Outcome, answer, refused}
+use Rattle.std.specs.Prelude.{ℕ, Result}
+use Rattle.refusal.specs.Outcome.{Outcome}
 use Rattle.annotation_items.specs.Items.{Summary}
-use Rattle.annotation_items.specs.declared.VisibilityAnswer as N
-use Rattle.annotation_items.specs.declared.SummaryAnswer as S
+use Rattle.refusal.specs.Answers.{outcome}
+use Rattle.refusal.specs.declared.Refusal.{Refusal}
+use Rattle.annotation_items.specs.declared.Summary as A
 
-abbrev pub visibility_outcome : N.VisibilityAnswer → Outcome ℕ
-visibility_outcome (N.TheVariants.Got v) = answer v
-visibility_outcome (N.TheVariants.Refused r) = refused r
+abbrev pub visibility_outcome : Result ℕ Refusal → Outcome ℕ
+visibility_outcome = outcome (λ (v : ℕ). v)
 
-abbrev pub summary_outcome : S.SummaryAnswer → Outcome Summary
-summary_outcome (S.TheVariants.Got v t n) = answer (record { visibility = v; type_index = t; count = n })
-summary_outcome (S.TheVariants.Refused r) = refused r
+abbrev pub summary_outcome : Result A.Summary Refusal → Outcome Summary
+summary_outcome = outcome (λ (x : A.Summary). record { visibility = x.visibility; type_index = x.type_index; count = x.count })

@@ -1,8 +1,8 @@
 -- What the answers of the code say.
-use Rattle.std.specs.Prelude.{ℕ}
-use Rattle.refusal.specs.Outcome.{Outcome, answer, refused}
-use Rattle.annotation_lists.specs.declared.WordAnswer as W
+use Rattle.std.specs.Prelude.{ℕ, Result}
+use Rattle.refusal.specs.Outcome.{Outcome}
+use Rattle.refusal.specs.Answers.{outcome}
+use Rattle.refusal.specs.declared.Refusal.{Refusal}
 
-abbrev pub word_outcome : W.WordAnswer → Outcome ℕ
-word_outcome (W.TheVariants.Got n) = answer n
-word_outcome (W.TheVariants.Refused r) = refused r
+abbrev pub word_outcome : Result ℕ Refusal → Outcome ℕ
+word_outcome = outcome (λ (n : ℕ). n)

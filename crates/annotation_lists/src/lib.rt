@@ -8,24 +8,17 @@ ghost use Rattle.refusal.specs.Answers.{checked_outcome};
 ghost use Rattle.annotation_lists.specs.Answers.{word_outcome};
 
 use frame::Frame;
-use refusal::{CheckAnswer, Refusal};
-
-// A count or an offset.
-#[derive(Clone, Copy)]
-pub enum WordAnswer {
-    Got(u32),
-    Refused(Refusal),
-}
+use refusal::Refusal;
 
 // A word of four bytes, 9 where it is missing.
-pub fn word_at(s: &[u8], frame: Frame, item: usize, at: usize) -> WordAnswer
+pub fn word_at(s: &[u8], frame: Frame, item: usize, at: usize) -> Result<u32, Refusal>
     ensures { word_outcome result ≡ word_at s.now frame item at }
 {
     let order = frame.order;
     if word::has_room(s.len(), at, 4) {
-        return WordAnswer::Got(word::u32_at(s, at, order));
+        return Ok(word::u32_at(s, at, order));
     }
-    WordAnswer::Refused(refusal::runs_past(item))
+    Err(refusal::runs_past(item))
 }
 
 // May an item lie at this offset.
@@ -39,15 +32,15 @@ fn is_offset(start: usize, end: usize, absent: bool, four: bool, offset: usize) 
 }
 
 // The offset at a place.
-fn offset_at(s: &[u8], frame: Frame, item: usize, absent: bool, four: bool, at: usize) -> WordAnswer
+fn offset_at(s: &[u8], frame: Frame, item: usize, absent: bool, four: bool, at: usize) -> Result<u32, Refusal>
     ensures { word_outcome result ≡ offset_at s.now frame item absent four at }
 {
     let order = frame.order;
     let offset = word::u32_at(s, at, order);
     if is_offset(frame.start, s.len(), absent, four, offset as usize) {
-        return WordAnswer::Got(offset);
+        return Ok(offset);
     }
-    WordAnswer::Refused(refusal::wrong_offset(item))
+    Err(refusal::wrong_offset(item))
 }
 
 // All offsets from a place on, which lie within the slice.
@@ -59,47 +52,29 @@ fn offsets_pass(
     four: bool,
     from: usize,
     count: u32,
-) -> CheckAnswer
+) -> Result<(), Refusal>
     requires { from + 4 * count ≤ length s.now }
     ensures { checked_outcome result ≡ offsets_pass s.now frame item absent four from count }
 {
     let mut at = from;
-    let mut left = count;
-    while 0 < left {
-        match offset_at(s, frame, item, absent, four, at) {
-            WordAnswer::Refused(r) => {
-                return CheckAnswer::Refused(r);
-            }
-            WordAnswer::Got(_) => {
-                at += 4;
-            }
-        }
-        left -= 1;
+    for _ in 0..count {
+        offset_at(s, frame, item, absent, four, at)?;
+at += 4;
     }
-    CheckAnswer::Accepted
+    Ok(())
 }
 
 // How many offsets a list has: its size, its length, then its offsets. The going over a set calls this itself and not `set_count`, which has other
 // callers and would not be compiled into it.
-pub fn offset_count(s: &[u8], frame: Frame, item: usize, absent: bool, four: bool) -> WordAnswer
+pub fn offset_count(s: &[u8], frame: Frame, item: usize, absent: bool, four: bool) -> Result<u32, Refusal>
     ensures { word_outcome result ≡ offset_count s.now frame item absent four }
 {
-    match word_at(s, frame, item, item) {
-        WordAnswer::Refused(r) => WordAnswer::Refused(r),
-        WordAnswer::Got(count) => {
-            if word::has_room(s.len(), item + 4, 4 * count as usize) {
-                match offsets_pass(s, frame, item, absent, four, item + 4, count) {
-                    CheckAnswer::Refused(r) => {
-                        return WordAnswer::Refused(r);
-                    }
-                    CheckAnswer::Accepted => {
-                        return WordAnswer::Got(count);
-                    }
-                }
+    let count = word_at(s, frame, item, item)?;
+if word::has_room(s.len(), item + 4, 4 * count as usize) {
+                offsets_pass(s, frame, item, absent, four, item + 4, count)?;
+return Ok(count);
             }
-            WordAnswer::Refused(refusal::runs_past(item))
-        }
-    }
+            Err(refusal::runs_past(item))
 }
 
 // Number k of a list's offsets.
@@ -110,43 +85,39 @@ fn offset_number(
     absent: bool,
     four: bool,
     k: u32,
-) -> WordAnswer
+) -> Result<u32, Refusal>
     ensures { word_outcome result ≡ offset_number s.now frame item absent four k }
 {
-    match offset_count(s, frame, item, absent, four) {
-        WordAnswer::Refused(r) => WordAnswer::Refused(r),
-        WordAnswer::Got(count) => {
-            if k < count {
+    let count = offset_count(s, frame, item, absent, four)?;
+if k < count {
                 return offset_at(s, frame, item, absent, four, item + 4 + 4 * k as usize);
             }
-            WordAnswer::Refused(refusal::not_there())
-        }
-    }
+            Err(refusal::not_there())
 }
 
 // How many annotation items a set has.
-pub fn set_count(s: &[u8], frame: Frame, item: usize) -> WordAnswer
+pub fn set_count(s: &[u8], frame: Frame, item: usize) -> Result<u32, Refusal>
     ensures { word_outcome result ≡ offset_count s.now frame item false false }
 {
     offset_count(s, frame, item, false, false)
 }
 
 // Where number k of a set's annotation items is.
-pub fn set_offset(s: &[u8], frame: Frame, item: usize, k: u32) -> WordAnswer
+pub fn set_offset(s: &[u8], frame: Frame, item: usize, k: u32) -> Result<u32, Refusal>
     ensures { word_outcome result ≡ offset_number s.now frame item false false k }
 {
     offset_number(s, frame, item, false, false, k)
 }
 
 // How many sets a reference list has, absent ones too.
-pub fn reference_count(s: &[u8], frame: Frame, item: usize) -> WordAnswer
+pub fn reference_count(s: &[u8], frame: Frame, item: usize) -> Result<u32, Refusal>
     ensures { word_outcome result ≡ offset_count s.now frame item true true }
 {
     offset_count(s, frame, item, true, true)
 }
 
 // Where number k of a reference list's sets is, 0 where it is absent.
-pub fn reference_offset(s: &[u8], frame: Frame, item: usize, k: u32) -> WordAnswer
+pub fn reference_offset(s: &[u8], frame: Frame, item: usize, k: u32) -> Result<u32, Refusal>
     ensures { word_outcome result ≡ offset_number s.now frame item true true k }
 {
     offset_number(s, frame, item, true, true, k)

@@ -7,88 +7,66 @@ ghost use Rattle.refusal.specs.Answers.{checked_outcome};
 ghost use Rattle.annotation_walk.specs.Below.{set_accepted, references_accepted, directory_accepted};
 ghost use Rattle.annotation_walk.specs.Below.{items_pass, own_accepted, sets_pass, one_below, below_pass, lists_below};
 
-use annotation_directories::{DirectoryHead, DirectoryHeadAnswer};
-use annotation_items::VisibilityAnswer;
-use annotation_lists::WordAnswer;
+use annotation_directories::DirectoryHead;
 use frame::Frame;
-use refusal::CheckAnswer;
+use refusal::Refusal;
 
 // The annotation items whose offsets stand from a place on.
-fn items_pass(s: &[u8], frame: Frame, from: usize, count: u32) -> CheckAnswer
+fn items_pass(s: &[u8], frame: Frame, from: usize, count: u32) -> Result<(), Refusal>
     requires { from + 4 * count ≤ length s.now }
     ensures { checked_outcome result ≡ items_pass s.now frame from count }
 {
     let order = frame.order;
     let mut at = from;
-    let mut left = count;
-    while 0 < left {
-        match annotation_items::annotation_item(s, frame, word::u32_at(s, at, order) as usize) {
-            VisibilityAnswer::Refused(r) => {
-                return CheckAnswer::Refused(r);
-            }
-            VisibilityAnswer::Got(_) => {
-                at += 4;
-            }
-        }
-        left -= 1;
+    for _ in 0..count {
+        annotation_items::annotation_item(s, frame, word::u32_at(s, at, order) as usize)?;
+at += 4;
     }
-    CheckAnswer::Accepted
+    Ok(())
 }
 
 // A set with all below it.
-pub fn check_set(s: &[u8], frame: Frame, item: usize) -> CheckAnswer
+pub fn check_set(s: &[u8], frame: Frame, item: usize) -> Result<(), Refusal>
     ensures { checked_outcome result ≡ set_accepted s.now frame item }
 {
-    match annotation_lists::offset_count(s, frame, item, false, false) {
-        WordAnswer::Refused(r) => CheckAnswer::Refused(r),
-        WordAnswer::Got(count) => items_pass(s, frame, item + 4, count),
-    }
+    let count = annotation_lists::offset_count(s, frame, item, false, false)?;
+items_pass(s, frame, item + 4, count)
 }
 
 // The set at an offset with all below it, if it is not absent.
-fn own_set(s: &[u8], frame: Frame, offset: u32) -> CheckAnswer
+fn own_set(s: &[u8], frame: Frame, offset: u32) -> Result<(), Refusal>
     ensures { checked_outcome result ≡ own_accepted s.now frame offset }
 {
     if offset <= 0 {
-        return CheckAnswer::Accepted;
+        return Ok(());
     }
     check_set(s, frame, offset as usize)
 }
 
 // The sets whose offsets stand from a place on.
-fn sets_pass(s: &[u8], frame: Frame, from: usize, count: u32) -> CheckAnswer
+fn sets_pass(s: &[u8], frame: Frame, from: usize, count: u32) -> Result<(), Refusal>
     requires { from + 4 * count ≤ length s.now }
     ensures { checked_outcome result ≡ sets_pass s.now frame from count }
 {
     let order = frame.order;
     let mut at = from;
-    let mut left = count;
-    while 0 < left {
-        match own_set(s, frame, word::u32_at(s, at, order)) {
-            CheckAnswer::Refused(r) => {
-                return CheckAnswer::Refused(r);
-            }
-            CheckAnswer::Accepted => {
-                at += 4;
-            }
-        }
-        left -= 1;
+    for _ in 0..count {
+        own_set(s, frame, word::u32_at(s, at, order))?;
+at += 4;
     }
-    CheckAnswer::Accepted
+    Ok(())
 }
 
 // A reference list with all below it.
-pub fn check_references(s: &[u8], frame: Frame, item: usize) -> CheckAnswer
+pub fn check_references(s: &[u8], frame: Frame, item: usize) -> Result<(), Refusal>
     ensures { checked_outcome result ≡ references_accepted s.now frame item }
 {
-    match annotation_lists::reference_count(s, frame, item) {
-        WordAnswer::Refused(r) => CheckAnswer::Refused(r),
-        WordAnswer::Got(count) => sets_pass(s, frame, item + 4, count),
-    }
+    let count = annotation_lists::reference_count(s, frame, item)?;
+sets_pass(s, frame, item + 4, count)
 }
 
 // What an entry leads to: a reference list for a parameter, else a set.
-fn one_below(s: &[u8], frame: Frame, parameter: bool, offset: usize) -> CheckAnswer
+fn one_below(s: &[u8], frame: Frame, parameter: bool, offset: usize) -> Result<(), Refusal>
     ensures { checked_outcome result ≡ one_below s.now frame parameter offset }
 {
     if parameter {
@@ -98,59 +76,41 @@ fn one_below(s: &[u8], frame: Frame, parameter: bool, offset: usize) -> CheckAns
 }
 
 // What the entries from a place on lead to.
-fn below_pass(s: &[u8], frame: Frame, parameter: bool, from: usize, count: u32) -> CheckAnswer
+fn below_pass(s: &[u8], frame: Frame, parameter: bool, from: usize, count: u32) -> Result<(), Refusal>
     requires { from + 8 * count ≤ length s.now }
     ensures { checked_outcome result ≡ below_pass s.now frame parameter from count }
 {
     let order = frame.order;
     let mut at = from;
-    let mut left = count;
-    while 0 < left {
-        match one_below(s, frame, parameter, word::u32_at(s, at + 4, order) as usize) {
-            CheckAnswer::Refused(r) => {
-                return CheckAnswer::Refused(r);
-            }
-            CheckAnswer::Accepted => {
-                at += 8;
-            }
-        }
-        left -= 1;
+    for _ in 0..count {
+        one_below(s, frame, parameter, word::u32_at(s, at + 4, order) as usize)?;
+at += 8;
     }
-    CheckAnswer::Accepted
+    Ok(())
 }
 
 // Below the class, the fields, the methods and the parameters of a directory whose three lists lie within the slice.
-fn lists_below(s: &[u8], frame: Frame, item: usize, h: DirectoryHead) -> CheckAnswer
+fn lists_below(s: &[u8], frame: Frame, item: usize, h: DirectoryHead) -> Result<(), Refusal>
     requires { item + 16 + 8 * h.fields + 8 * h.methods + 8 * h.parameters ≤ length s.now }
     ensures { checked_outcome result ≡ lists_below s.now frame item h }
 {
     let methods = item + 16 + 8 * h.fields as usize;
-    match own_set(s, frame, h.set) {
-        CheckAnswer::Refused(r) => CheckAnswer::Refused(r),
-        CheckAnswer::Accepted => match below_pass(s, frame, false, item + 16, h.fields) {
-            CheckAnswer::Refused(r) => CheckAnswer::Refused(r),
-            CheckAnswer::Accepted => match below_pass(s, frame, false, methods, h.methods) {
-                CheckAnswer::Refused(r) => CheckAnswer::Refused(r),
-                CheckAnswer::Accepted => {
-                    below_pass(
+    own_set(s, frame, h.set)?;
+below_pass(s, frame, false, item + 16, h.fields)?;
+below_pass(s, frame, false, methods, h.methods)?;
+below_pass(
                         s,
                         frame,
                         true,
                         methods + 8 * h.methods as usize,
                         h.parameters,
                     )
-                }
-            },
-        },
-    }
 }
 
 // A directory with all below it.
-pub fn check_directory(s: &[u8], frame: Frame, item: usize) -> CheckAnswer
+pub fn check_directory(s: &[u8], frame: Frame, item: usize) -> Result<(), Refusal>
     ensures { checked_outcome result ≡ directory_accepted s.now frame item }
 {
-    match annotation_directories::directory(s, frame, item) {
-        DirectoryHeadAnswer::Refused(r) => CheckAnswer::Refused(r),
-        DirectoryHeadAnswer::Got(h) => lists_below(s, frame, item, h),
-    }
+    let h = annotation_directories::directory(s, frame, item)?;
+lists_below(s, frame, item, h)
 }

@@ -6,10 +6,10 @@ ghost use Rattle.string_ids.specs.Answers.{lookup_outcome};
 ghost use Rattle.answer_rows.specs.Words.{row, told, told_if, order_word, maybe_word, ordered_words, header_words, signature_words, joined_words, class_words, number_words};
 
 use super::words;
-use class_ids::{Class, ClassAnswer, Maybe};
-use header::{Header, HeaderAnswer};
-use string_ids::{FoundString, LookupAnswer};
+use class_ids::Class;
+use header::Header;
 use word::Endian;
+use refusal::Refusal;
 
 fn order_word(order: Endian) -> u64
     ensures { result ≡ order_word order }
@@ -20,12 +20,12 @@ fn order_word(order: Endian) -> u64
     }
 }
 
-fn maybe_word(m: Maybe) -> u64
+fn maybe_word(m: Option<u32>) -> u64
     ensures { result ≡ maybe_word m }
 {
     match m {
-        Maybe::Number(n) => n as u64,
-        Maybe::Absent => 18446744073709551615,
+        Some(n) => n as u64,
+        None => 18446744073709551615,
     }
 }
 
@@ -69,22 +69,22 @@ fn whole_header(header: Header) -> [u64; 20]
     ordered_row(header, order_word(order))
 }
 
-pub fn header_row(a: HeaderAnswer) -> [u64; 20]
+pub fn header_row(a: Result<Header, Refusal>) -> [u64; 20]
     ensures { result ≡ told header_words (header_outcome a) }
 {
     match a {
-        HeaderAnswer::Refused(r) => words::refused(r),
-        HeaderAnswer::Got(header) => whole_header(header),
+        Err(r) => words::refused(r),
+        Ok(header) => whole_header(header),
     }
 }
 
 // Where the signature is.
-pub fn signature_row(a: HeaderAnswer) -> [u64; 20]
+pub fn signature_row(a: Result<Header, Refusal>) -> [u64; 20]
     ensures { result ≡ told signature_words (header_outcome a) }
 {
     match a {
-        HeaderAnswer::Refused(r) => words::refused(r),
-        HeaderAnswer::Got(_) => words::four(12, 20, 0, 0),
+        Err(r) => words::refused(r),
+        Ok(_) => words::four(12, 20, 0, 0),
     }
 }
 
@@ -123,23 +123,23 @@ fn whole_class(c: Class) -> [u64; 20]
     joined_row(c, maybe_word(superclass), maybe_word(source))
 }
 
-pub fn class_row(a: ClassAnswer) -> [u64; 20]
+pub fn class_row(a: Result<Class, Refusal>) -> [u64; 20]
     ensures { result ≡ told class_words (class_outcome a) }
 {
     match a {
-        ClassAnswer::Refused(r) => words::refused(r),
-        ClassAnswer::Got(c) => whole_class(c),
+        Err(r) => words::refused(r),
+        Ok(c) => whole_class(c),
     }
 }
 
-pub fn lookup_row(a: LookupAnswer) -> [u64; 20]
+pub fn lookup_row(a: Result<Option<u32>, Refusal>) -> [u64; 20]
     ensures { result ≡ told_if number_words (lookup_outcome a) }
 {
     match a {
-        LookupAnswer::Refused(r) => words::refused(r),
-        LookupAnswer::Got(o) => match o {
-            FoundString::Absent => words::absent(),
-            FoundString::Number(n) => words::one(n),
+        Err(r) => words::refused(r),
+        Ok(o) => match o {
+            None => words::absent(),
+            Some(n) => words::one(n),
         },
     }
 }

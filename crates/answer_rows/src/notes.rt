@@ -8,23 +8,26 @@ ghost use Rattle.annotation_items.specs.Answers.{summary_outcome as annotation-o
 ghost use Rattle.answer_rows.specs.Words.{annotation_words, directory_words, no_words, number_words, place_words, told, told_if};
 
 use super::words;
+use refusal::Refusal;
+use annotation_items::Summary;
+use annotation_directories::DirectoryEntry;
 
-pub fn checked_row(a: refusal::CheckAnswer) -> [u64; 20]
+pub fn checked_row(a: Result<(), Refusal>) -> [u64; 20]
     ensures { result ≡ told no_words (checked_outcome a) }
 {
     match a {
-        refusal::CheckAnswer::Refused(r) => words::refused(r),
-        refusal::CheckAnswer::Accepted => words::four(0, 0, 0, 0),
+        Err(r) => words::refused(r),
+        Ok(()) => words::four(0, 0, 0, 0),
     }
 }
 
-pub fn directory_row(a: directory_readers::DirectoryAnswer) -> [u64; 20]
+pub fn directory_row(a: Result<Option<DirectoryHead>, Refusal>) -> [u64; 20]
     ensures { result ≡ told_if directory_words (directory_outcome a) }
 {
     match a {
-        directory_readers::DirectoryAnswer::Refused(r) => words::refused(r),
-        directory_readers::DirectoryAnswer::Absent => words::absent(),
-        directory_readers::DirectoryAnswer::Got(h) => words::four(
+        Err(r) => words::refused(r),
+        Ok(None) => words::absent(),
+        Ok(Some(h)) => words::four(
             h.set as u64,
             h.fields as u64,
             h.methods as u64,
@@ -33,12 +36,12 @@ pub fn directory_row(a: directory_readers::DirectoryAnswer) -> [u64; 20]
     }
 }
 
-pub fn place_row(a: annotation_directories::DirectoryEntryAnswer) -> [u64; 20]
+pub fn place_row(a: Result<DirectoryEntry, Refusal>) -> [u64; 20]
     ensures { result ≡ told place_words (place-outcome a) }
 {
     match a {
-        annotation_directories::DirectoryEntryAnswer::Refused(r) => words::refused(r),
-        annotation_directories::DirectoryEntryAnswer::Got { index, offset } => words::four(
+        Err(r) => words::refused(r),
+        Ok(DirectoryEntry { index, offset }) => words::four(
             index as u64,
             offset as u64,
             0,
@@ -47,24 +50,20 @@ pub fn place_row(a: annotation_directories::DirectoryEntryAnswer) -> [u64; 20]
     }
 }
 
-pub fn word_row(a: annotation_lists::WordAnswer) -> [u64; 20]
+pub fn word_row(a: Result<u32, Refusal>) -> [u64; 20]
     ensures { result ≡ told number_words (word_outcome a) }
 {
     match a {
-        annotation_lists::WordAnswer::Refused(r) => words::refused(r),
-        annotation_lists::WordAnswer::Got(n) => words::one(n),
+        Err(r) => words::refused(r),
+        Ok(n) => words::one(n),
     }
 }
 
-pub fn annotation_row(a: annotation_items::SummaryAnswer) -> [u64; 20]
+pub fn annotation_row(a: Result<Summary, Refusal>) -> [u64; 20]
     ensures { result ≡ told annotation_words (annotation-outcome a) }
 {
     match a {
-        annotation_items::SummaryAnswer::Refused(r) => words::refused(r),
-        annotation_items::SummaryAnswer::Got {
-            visibility,
-            type_index,
-            count,
-        } => words::four(visibility as u64, type_index as u64, count as u64, 0),
+        Err(r) => words::refused(r),
+        Ok(Summary { visibility, type_index, count }) => words::four(visibility as u64, type_index as u64, count as u64, 0),
     }
 }

@@ -11,11 +11,10 @@ mod reasons;
 
 pub use outputs::{close_output, write_output};
 pub use reasons::tell_why;
-use report::ReportAnswer;
 use std::env::{Env, FillError};
 use std::fs::Files;
 use std::io::Read;
-use verdict::Verdict;
+use refusal::{Read, Refusal};
 
 // One byte more than is taken, so that an input that is too long is known to be.
 pub const ROOM: usize = 65537;
@@ -110,18 +109,18 @@ fn refuse_name(name: &[u8]) -> u8
 }
 
 // Writes what goes out for an input with this verdict, in one piece; `what` is said on standard error, `name` on standard output.
-pub fn write_report(rt: &(impl Env + Print), verdict: Verdict, what: &[u8], name: &[u8]) -> u8
+pub fn write_report(rt: &(impl Env + Print), verdict: Result<Header, Refusal>, what: &[u8], name: &[u8]) -> u8
     ensures { Tells (verdict_outcome verdict) result }
 {
     let mut out = [0u8; OUT];
     match named_report::output_into(name, verdict, &mut out) {
-        ReportAnswer::Got(k) => {
+        Ok(k) => {
             if !outputs::write_output(rt, &out[..k]) {
                 return UNWRITTEN;
             }
             named_report::status_of(verdict)
         }
-        ReportAnswer::Refused(_) => complain(what, b": no room for its report\n"),
+        Err(_) => complain(what, b": no room for its report\n"),
     }
 }
 

@@ -6,10 +6,9 @@ ghost use Rattle.std.specs.Prelude.{◌≡◌};
 ghost use Rattle.class_data.specs.Data.{two_numbers_at, counts_at, kept_two, kept_data_at, methods_from, extent_at, methods_at, member_of_list, count_in, member_in};
 ghost use Rattle.class_data.specs.Answers.{two_numbers_outcome, counts_outcome, two_outcome, kept_data_outcome, data_outcome, member_outcome, methods_outcome};
 
-use class_members::{Member, MemberFoundAnswer, MemberJudge};
+use class_members::{Member, MemberJudge};
 use frame::Frame;
-use leb128::LebAnswer;
-use refusal::Refusal;
+use refusal::{Read, Refusal};
 
 #[derive(Clone, Copy)]
 pub struct Counts {
@@ -28,49 +27,21 @@ pub struct KeptMembers {
     pub virtuals: Member,
 }
 
+// Two of one kind, one after the other, and the place after them.
 #[derive(Clone, Copy)]
-pub enum TwoNumbersAnswer {
-    Got {
-        first: u32,
-        second: u32,
-        next: usize,
-    },
-    Refused(Refusal),
+pub struct Two<T> {
+    pub first: T,
+    pub second: T,
+    pub next: usize,
 }
 
+// The four counts, one member of each list, where the methods begin, and the place after the item.
 #[derive(Clone, Copy)]
-pub enum CountsAnswer {
-    Got { counts: Counts, next: usize },
-    Refused(Refusal),
-}
-
-// One member of each of two lists, and the place after them.
-#[derive(Clone, Copy)]
-pub enum TwoMembersAnswer {
-    Got {
-        first: Member,
-        second: Member,
-        next: usize,
-    },
-    Refused(Refusal),
-}
-
-#[derive(Clone, Copy)]
-pub enum KeptDataAnswer {
-    Got {
-        counts: Counts,
-        members: KeptMembers,
-        methods: usize,
-        end: usize,
-    },
-    Refused(Refusal),
-}
-
-// The four counts, and the place after the item.
-#[derive(Clone, Copy)]
-pub enum DataAnswer {
-    Got { counts: Counts, end: usize },
-    Refused(Refusal),
+pub struct KeptData {
+    pub counts: Counts,
+    pub members: KeptMembers,
+    pub methods: usize,
+    pub end: usize,
 }
 
 // How many direct and virtual methods there are, and where they begin.
@@ -79,18 +50,6 @@ pub struct Methods {
     pub directs: u32,
     pub virtuals: u32,
     pub from: usize,
-}
-
-#[derive(Clone, Copy)]
-pub enum MethodsAnswer {
-    Got(Methods),
-    Refused(Refusal),
-}
-
-#[derive(Clone, Copy)]
-pub enum MemberAnswer {
-    Got(Member),
-    Refused(Refusal),
 }
 
 // Two lists of one kind, one after the other.
@@ -102,145 +61,128 @@ fn two_at(
     m: u32,
     n: u32,
     k: u32,
-) -> TwoMembersAnswer
+) -> Result<Two<Member>, Refusal>
     ensures { two_outcome result ≡ kept_two s.now j item from m n k }
 {
-    match class_members::members_at(s, j, item, from, m, k) {
-        MemberFoundAnswer::Refused(r) => TwoMembersAnswer::Refused(r),
-        MemberFoundAnswer::Got {
-            member: first,
-            next: middle,
-        } => match class_members::members_at(s, j, item, middle, n, k) {
-            MemberFoundAnswer::Refused(r) => TwoMembersAnswer::Refused(r),
-            MemberFoundAnswer::Got {
-                member: second,
-                next,
-            } => TwoMembersAnswer::Got {
-                first,
-                second,
-                next,
-            },
-        },
-    }
+    let Read {
+        value: first,
+        next: middle,
+    } = class_members::members_at(s, j, item, from, m, k)?;
+    let Read {
+        value: second,
+        next,
+    } = class_members::members_at(s, j, item, middle, n, k)?;
+    Ok(Two {
+        first,
+        second,
+        next,
+    })
 }
 
 // Two numbers, one after the other.
-fn pair_at(s: &[u8], item: usize, at: usize) -> TwoNumbersAnswer
+fn pair_at(s: &[u8], item: usize, at: usize) -> Result<Two<u32>, Refusal>
     ensures { two_numbers_outcome result ≡ two_numbers_at s.now item at }
 {
-    match leb128::uleb(s, at, item) {
-        LebAnswer::Refused(r) => TwoNumbersAnswer::Refused(r),
-        LebAnswer::Got {
-            value: first,
-            next: middle,
-        } => match leb128::uleb(s, middle, item) {
-            LebAnswer::Refused(r) => TwoNumbersAnswer::Refused(r),
-            LebAnswer::Got {
-                value: second,
-                next,
-            } => TwoNumbersAnswer::Got {
-                first,
-                second,
-                next,
-            },
-        },
-    }
+    let Read {
+        value: first,
+        next: middle,
+    } = leb128::uleb(s, at, item)?;
+    let Read {
+        value: second,
+        next,
+    } = leb128::uleb(s, middle, item)?;
+    Ok(Two {
+        first,
+        second,
+        next,
+    })
 }
 
 // The four counts.
-pub fn counts_at(s: &[u8], item: usize) -> CountsAnswer
+pub fn counts_at(s: &[u8], item: usize) -> Result<Read<Counts>, Refusal>
     ensures { counts_outcome result ≡ counts_at s.now item }
 {
-    match pair_at(s, item, item) {
-        TwoNumbersAnswer::Refused(r) => CountsAnswer::Refused(r),
-        TwoNumbersAnswer::Got {
-            first: statics,
-            second: instances,
-            next: middle,
-        } => match pair_at(s, item, middle) {
-            TwoNumbersAnswer::Refused(r) => CountsAnswer::Refused(r),
-            TwoNumbersAnswer::Got {
-                first: directs,
-                second: virtuals,
-                next,
-            } => CountsAnswer::Got {
-                counts: Counts {
-                    statics,
-                    instances,
-                    directs,
-                    virtuals,
-                },
-                next,
-            },
+    let Two {
+        first: statics,
+        second: instances,
+        next: middle,
+    } = pair_at(s, item, item)?;
+    let Two {
+        first: directs,
+        second: virtuals,
+        next,
+    } = pair_at(s, item, middle)?;
+    Ok(Read {
+        value: Counts {
+            statics,
+            instances,
+            directs,
+            virtuals,
         },
-    }
+        next,
+    })
 }
 
 // The whole, of which member k of each list is kept.
-fn kept_at(s: &[u8], frame: Frame, item: usize, k: u32) -> KeptDataAnswer
+fn kept_at(s: &[u8], frame: Frame, item: usize, k: u32) -> Result<KeptData, Refusal>
     ensures { kept_data_outcome result ≡ kept_data_at s.now frame item k }
 {
-    match counts_at(s, item) {
-        CountsAnswer::Refused(r) => KeptDataAnswer::Refused(r),
-        CountsAnswer::Got { counts, next } => {
-            let fields = MemberJudge {
-                limit: frame.fields,
-                code: false,
-                start: frame.start,
-            };
-            match two_at(s, fields, item, next, counts.statics, counts.instances, k) {
-                TwoMembersAnswer::Refused(r) => KeptDataAnswer::Refused(r),
-                TwoMembersAnswer::Got {
-                    first: statics,
-                    second: instances,
-                    next: middle,
-                } => {
-                    let methods = MemberJudge {
-                        limit: frame.methods,
-                        code: true,
-                        start: frame.start,
-                    };
-                    match two_at(s, methods, item, middle, counts.directs, counts.virtuals, k) {
-                        TwoMembersAnswer::Refused(r) => KeptDataAnswer::Refused(r),
-                        TwoMembersAnswer::Got {
-                            first: directs,
-                            second: virtuals,
-                            next: end,
-                        } => KeptDataAnswer::Got {
-                            counts,
-                            members: KeptMembers {
-                                statics,
-                                instances,
-                                directs,
-                                virtuals,
-                            },
-                            methods: middle,
-                            end,
-                        },
-                    }
-                }
-            }
-        }
-    }
+    let Read {
+        value: counts,
+        next,
+    } = counts_at(s, item)?;
+    let fields = MemberJudge {
+        limit: frame.fields,
+        code: false,
+        start: frame.start,
+    };
+    let Two {
+        first: statics,
+        second: instances,
+        next: middle,
+    } = two_at(s, fields, item, next, counts.statics, counts.instances, k)?;
+    let methods = MemberJudge {
+        limit: frame.methods,
+        code: true,
+        start: frame.start,
+    };
+    let Two {
+        first: directs,
+        second: virtuals,
+        next: end,
+    } = two_at(s, methods, item, middle, counts.directs, counts.virtuals, k)?;
+    Ok(KeptData {
+        counts,
+        members: KeptMembers {
+            statics,
+            instances,
+            directs,
+            virtuals,
+        },
+        methods: middle,
+        end,
+    })
 }
 
 // The class data at a place.
-pub fn class_data_at(s: &[u8], frame: Frame, item: usize) -> DataAnswer
+pub fn class_data_at(s: &[u8], frame: Frame, item: usize) -> Result<Read<Counts>, Refusal>
     ensures { data_outcome result ≡ extent_at s.now frame item }
 {
-    match kept_at(s, frame, item, 0) {
-        KeptDataAnswer::Refused(r) => DataAnswer::Refused(r),
-        KeptDataAnswer::Got {
-            counts,
-            members: _,
-            methods: _,
-            end,
-        } => DataAnswer::Got { counts, end },
-    }
+    let KeptData { counts, end, .. } = kept_at(s, frame, item, 0)?;
+    Ok(Read {
+        value: counts,
+        next: end,
+    })
 }
 
 // The two lists of methods, which begin at `from`: only that they obey their rules is kept, and where they are.
-fn methods_from(s: &[u8], frame: Frame, item: usize, counts: Counts, from: usize) -> MethodsAnswer
+fn methods_from(
+    s: &[u8],
+    frame: Frame,
+    item: usize,
+    counts: Counts,
+    from: usize,
+) -> Result<Methods, Refusal>
     ensures { methods_outcome result ≡ methods_from s.now frame item counts from }
 {
     let methods = MemberJudge {
@@ -248,23 +190,17 @@ fn methods_from(s: &[u8], frame: Frame, item: usize, counts: Counts, from: usize
         code: true,
         start: frame.start,
     };
-    match two_at(s, methods, item, from, counts.directs, counts.virtuals, 0) {
-        TwoMembersAnswer::Refused(r) => MethodsAnswer::Refused(r),
-        TwoMembersAnswer::Got {
-            first: _,
-            second: _,
-            next: _,
-        } => MethodsAnswer::Got(Methods {
-            directs: counts.directs,
-            virtuals: counts.virtuals,
-            from,
-        }),
-    }
+    two_at(s, methods, item, from, counts.directs, counts.virtuals, 0)?;
+    Ok(Methods {
+        directs: counts.directs,
+        virtuals: counts.virtuals,
+        from,
+    })
 }
 
 // How many methods either list has, and where they begin: for going over them once more. The check asks for nothing else, and the answer of `kept_at`, with its
 // four members, would be copied for each class.
-pub fn methods_at(s: &[u8], frame: Frame, item: usize) -> MethodsAnswer
+pub fn methods_at(s: &[u8], frame: Frame, item: usize) -> Result<Methods, Refusal>
     ensures { methods_outcome result ≡ methods_at s.now frame item }
 {
     let fields = MemberJudge {
@@ -272,19 +208,20 @@ pub fn methods_at(s: &[u8], frame: Frame, item: usize) -> MethodsAnswer
         code: false,
         start: frame.start,
     };
-    match counts_at(s, item) {
-        CountsAnswer::Refused(r) => MethodsAnswer::Refused(r),
-        CountsAnswer::Got { counts, next } => {
-            match two_at(s, fields, item, next, counts.statics, counts.instances, 0) {
-                TwoMembersAnswer::Refused(r) => MethodsAnswer::Refused(r),
-                TwoMembersAnswer::Got {
-                    first: _,
-                    second: _,
-                    next: from,
-                } => methods_from(s, frame, item, counts, from),
-            }
-        }
-    }
+    let Read {
+        value: counts,
+        next,
+    } = counts_at(s, item)?;
+    let Two { next: from, .. } = two_at(
+        s,
+        fields,
+        item,
+        next,
+        counts.statics,
+        counts.instances,
+        0,
+    )?;
+    methods_from(s, frame, item, counts, from)
 }
 
 // How many members a list has: 0 static fields, 1 instance fields, 2 direct methods, 3 virtual methods.
@@ -330,22 +267,17 @@ fn member_in(list: u32, m: KeptMembers) -> Member
 }
 
 // Member k of a list.
-pub fn member_at(s: &[u8], frame: Frame, item: usize, list: u32, k: u32) -> MemberAnswer
+pub fn member_at(s: &[u8], frame: Frame, item: usize, list: u32, k: u32) -> Result<Member, Refusal>
     ensures { member_outcome result ≡ member_of_list s.now frame item list k }
 {
-    match kept_at(s, frame, item, k) {
-        KeptDataAnswer::Refused(r) => MemberAnswer::Refused(r),
-        KeptDataAnswer::Got {
-            counts,
-            members,
-            methods: _,
-            end: _,
-        } => {
-            let count = count_in(list, counts);
-            if k < count {
-                return MemberAnswer::Got(member_in(list, members));
-            }
-            MemberAnswer::Refused(refusal::not_there())
-        }
+    let KeptData {
+        counts,
+        members,
+        ..
+    } = kept_at(s, frame, item, k)?;
+    let count = count_in(list, counts);
+    if k < count {
+        return Ok(member_in(list, members));
     }
+    Err(refusal::not_there())
 }

@@ -1,8 +1,9 @@
 -- What the answers of the code say.
-use Rattle.refusal.specs.Outcome.{Outcome, answer, refused}
+use Rattle.refusal.specs.Outcome.{Outcome}
 use Rattle.class_ids.specs.declared.Class.{Class}
-use Rattle.class_ids.specs.declared.ClassAnswer as C
+use Rattle.std.specs.Prelude.{Result}
+use Rattle.refusal.specs.Answers.{outcome}
+use Rattle.refusal.specs.declared.Refusal.{Refusal}
 
-abbrev pub class_outcome : C.ClassAnswer → Outcome Class
-class_outcome (C.TheVariants.Got c) = answer c
-class_outcome (C.TheVariants.Refused r) = refused r
+abbrev pub class_outcome : Result Class Refusal → Outcome Class
+class_outcome = outcome (λ (c : Class). c)

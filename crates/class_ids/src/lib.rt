@@ -9,30 +9,17 @@ use frame::Frame;
 use refusal::Refusal;
 use word::Endian;
 
-// An index, or none: 0xFFFFFFFF means none.
-#[derive(Clone, Copy)]
-pub enum Maybe {
-    Number(u32),
-    Absent,
-}
-
 // A class: an offset of 0 means absent.
 #[derive(Clone, Copy)]
 pub struct Class {
     pub class: u32,
     pub flags: u32,
-    pub superclass: Maybe,
+    pub superclass: Option<u32>,
     pub interfaces: u32,
-    pub source: Maybe,
+    pub source: Option<u32>,
     pub directory: u32,
     pub data: u32,
     pub values: u32,
-}
-
-#[derive(Clone, Copy)]
-pub enum ClassAnswer {
-    Got(Class),
-    Refused(Refusal),
 }
 
 // The eight words of a record.
@@ -58,13 +45,13 @@ fn is_index_or_none(v: u32, count: u32) -> bool
     v < count
 }
 
-fn maybe_of(v: u32) -> Maybe
+fn maybe_of(v: u32) -> Option<u32>
     ensures { result ≡ maybe_of v }
 {
     if v == 4294967295 {
-        return Maybe::Absent;
+        return None;
     }
-    Maybe::Number(v)
+    Some(v)
 }
 
 fn words_at(f: &[u8], order: Endian, offset: u32, n: u32) -> ClassWords
@@ -100,49 +87,49 @@ fn class_of(w: ClassWords) -> Class
 }
 
 // The rules of the last three words: directory, class data, static values.
-fn places_of(start: usize, end: usize, place: usize, w: ClassWords) -> ClassAnswer
+fn places_of(start: usize, end: usize, place: usize, w: ClassWords) -> Result<Class, Refusal>
     ensures { class_outcome result ≡ places_of start end place w }
 {
     if frame::is_allowed_or_absent(start, end, true, w.directory as usize) {
         if frame::is_allowed_or_absent(start, end, false, w.data as usize) {
             if frame::is_allowed_or_absent(start, end, false, w.values as usize) {
-                return ClassAnswer::Got(class_of(w));
+                return Ok(class_of(w));
             }
-            return ClassAnswer::Refused(refusal::wrong_offset(place));
+            return Err(refusal::wrong_offset(place));
         }
-        return ClassAnswer::Refused(refusal::wrong_offset(place));
+        return Err(refusal::wrong_offset(place));
     }
-    ClassAnswer::Refused(refusal::wrong_offset(place))
+    Err(refusal::wrong_offset(place))
 }
 
 // The rules of the words before those: interfaces, source file.
-fn middle_of(frame: Frame, end: usize, place: usize, w: ClassWords) -> ClassAnswer
+fn middle_of(frame: Frame, end: usize, place: usize, w: ClassWords) -> Result<Class, Refusal>
     ensures { class_outcome result ≡ middle_of frame end place w }
 {
     if frame::is_allowed_or_absent(frame.start, end, true, w.interfaces as usize) {
         if is_index_or_none(w.source, frame.strings) {
             return places_of(frame.start, end, place, w);
         }
-        return ClassAnswer::Refused(refusal::wrong_index(place));
+        return Err(refusal::wrong_index(place));
     }
-    ClassAnswer::Refused(refusal::wrong_offset(place))
+    Err(refusal::wrong_offset(place))
 }
 
 // The rules of the words in stored order: class, superclass, then the others.
-fn first_of(frame: Frame, end: usize, place: usize, w: ClassWords) -> ClassAnswer
+fn first_of(frame: Frame, end: usize, place: usize, w: ClassWords) -> Result<Class, Refusal>
     ensures { class_outcome result ≡ first_of frame end place w }
 {
     if frame.types <= w.class {
-        return ClassAnswer::Refused(refusal::wrong_index(place));
+        return Err(refusal::wrong_index(place));
     }
     if is_index_or_none(w.superclass, frame.types) {
         return middle_of(frame, end, place, w);
     }
-    ClassAnswer::Refused(refusal::wrong_index(place))
+    Err(refusal::wrong_index(place))
 }
 
 // Class n of the table that begins at an offset.
-pub fn class_at(f: &[u8], frame: Frame, end: usize, offset: u32, n: u32) -> ClassAnswer
+pub fn class_at(f: &[u8], frame: Frame, end: usize, offset: u32, n: u32) -> Result<Class, Refusal>
     ensures { class_outcome result ≡ class_at f.now frame end offset n }
 {
     let order = frame.order;

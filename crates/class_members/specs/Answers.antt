@@ -1,10 +1,11 @@
 -- What the answers of the code say.
-use Rattle.std.specs.Prelude.{ℕ}
-use Rattle.refusal.specs.Outcome.{Outcome, answer, refused}
+use Rattle.std.specs.Prelude.{ℕ, Result}
+use Rattle.refusal.specs.Outcome.{Outcome}
 use Rattle.refusal.specs.Rows.{Found}
 use Rattle.class_members.specs.declared.Member.{Member}
-use Rattle.class_members.specs.declared.MemberFoundAnswer as F
+use Rattle.refusal.specs.Answers.{found, outcome}
+use Rattle.refusal.specs.declared.Refusal.{Refusal}
+use Rattle.refusal.specs.declared.Read as R
 
-abbrev pub found_outcome : F.MemberFoundAnswer → Outcome (Found Member ℕ)
-found_outcome (F.TheVariants.Got m n) = answer (record { item = m; next = n })
-found_outcome (F.TheVariants.Refused r) = refused r
+abbrev pub found_outcome : Result (R.Read Member) Refusal → Outcome (Found Member ℕ)
+found_outcome = outcome (found (λ (m : Member). m))

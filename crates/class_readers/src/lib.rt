@@ -21,30 +21,3 @@ pub struct Spot {
     pub place: u32,
 }
 
-#[derive(Clone, Copy)]
-pub enum SpotAnswer {
-    Absent,
-    Got(Spot),
-    Refused(Refusal),
-}
-
-#[derive(Clone, Copy)]
-pub enum MaybeDataAnswer {
-    Absent,
-    Got(Counts),
-    Refused(Refusal),
-}
-
-#[derive(Clone, Copy)]
-pub enum MaybeMemberAnswer {
-    Absent,
-    Got(Member),
-    Refused(Refusal),
-}
-
-#[derive(Clone, Copy)]
-pub enum MaybeCountAnswer {
-    Absent,
-    Got(usize),
-    Refused(Refusal),
-}

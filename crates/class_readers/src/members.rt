@@ -3,73 +3,68 @@ ghost use Rattle.std.specs.Prelude.{◌≡◌, length};
 ghost use Rattle.class_readers.specs.Members.{counts_under, class_data, member_under, member_number, member_flags, member_content};
 ghost use Rattle.class_readers.specs.Answers.{maybe_data, maybe_member, maybe_count};
 
-use super::{MaybeCountAnswer, MaybeDataAnswer, MaybeMemberAnswer, Spot, SpotAnswer};
-use access_flags::FlagsAnswer;
-use class_data::{DataAnswer, MemberAnswer};
+use super::{Result<Option<usize>, Refusal>, Result<Option<Counts>, Refusal>, Result<Option<Member>, Refusal>, Spot, Result<Option<Spot>, Refusal>};
+use refusal::{Read, Refusal};
 
-fn counts_under(f: &[u8], spot: Spot) -> MaybeDataAnswer
+fn counts_under(f: &[u8], spot: Spot) -> Result<Option<Counts>, Refusal>
     ensures { maybe_data result ≡ counts_under f.now spot }
 {
     let header = spot.header;
-    match class_data::class_data_at(
+    let Read { value: counts, .. } = class_data::class_data_at(
         header::up_to_end(f, header),
         header::plain_frame(header),
         spot.place as usize,
-    ) {
-        DataAnswer::Refused(r) => MaybeDataAnswer::Refused(r),
-        DataAnswer::Got { counts, end: _ } => MaybeDataAnswer::Got(counts),
-    }
+    )?;
+Ok(Some(counts))
 }
 
 // How many members the four lists of class c have.
-pub fn class_data(f: &[u8], c: u32) -> MaybeDataAnswer
+pub fn class_data(f: &[u8], c: u32) -> Result<Option<Counts>, Refusal>
     ensures { maybe_data result ≡ class_data f.now c }
 {
     match super::spots::data_spot(f, c) {
-        SpotAnswer::Refused(r) => MaybeDataAnswer::Refused(r),
-        SpotAnswer::Absent => MaybeDataAnswer::Absent,
-        SpotAnswer::Got(spot) => counts_under(f, spot),
+        Err(r) => Err(r),
+        Ok(None) => Ok(None),
+        Ok(Some(spot)) => counts_under(f, spot),
     }
 }
 
-fn member_under(f: &[u8], spot: Spot, list: u32, k: u32) -> MaybeMemberAnswer
+fn member_under(f: &[u8], spot: Spot, list: u32, k: u32) -> Result<Option<Member>, Refusal>
     ensures { maybe_member result ≡ member_under f.now list k spot }
 {
     let header = spot.header;
-    match class_data::member_at(
+    let m = class_data::member_at(
         header::up_to_end(f, header),
         header::plain_frame(header),
         spot.place as usize,
         list,
         k,
-    ) {
-        MemberAnswer::Refused(r) => MaybeMemberAnswer::Refused(r),
-        MemberAnswer::Got(m) => MaybeMemberAnswer::Got(m),
-    }
+    )?;
+Ok(Some(m))
 }
 
 // Member k of a list of class c: its index, its access flags, and the offset of its code, 0 for a field.
-pub fn member(f: &[u8], c: u32, list: u32, k: u32) -> MaybeMemberAnswer
+pub fn member(f: &[u8], c: u32, list: u32, k: u32) -> Result<Option<Member>, Refusal>
     ensures { maybe_member result ≡ member_number f.now c list k }
 {
     match super::spots::data_spot(f, c) {
-        SpotAnswer::Refused(r) => MaybeMemberAnswer::Refused(r),
-        SpotAnswer::Absent => MaybeMemberAnswer::Absent,
-        SpotAnswer::Got(spot) => member_under(f, spot, list, k),
+        Err(r) => Err(r),
+        Ok(None) => Ok(None),
+        Ok(Some(spot)) => member_under(f, spot, list, k),
     }
 }
 
 // Its access flags as bit numbers in a lent output: how many; 19, writing nothing, where the output is shorter.
-pub fn member_flags(f: &[u8], c: u32, list: u32, k: u32, out: &mut [u8]) -> MaybeCountAnswer
+pub fn member_flags(f: &[u8], c: u32, list: u32, k: u32, out: &mut [u8]) -> Result<Option<usize>, Refusal>
     ensures answer { maybe_count result ≡ member_flags f.now c list k (length out.old) }
     ensures content { out.new ≡ member_content f.now c list k out.old }
 {
     match member(f, c, list, k) {
-        MaybeMemberAnswer::Refused(r) => MaybeCountAnswer::Refused(r),
-        MaybeMemberAnswer::Absent => MaybeCountAnswer::Absent,
-        MaybeMemberAnswer::Got(m) => match access_flags::flags_into(m.flags, false, out) {
-            FlagsAnswer::Refused(r) => MaybeCountAnswer::Refused(r),
-            FlagsAnswer::Got(n) => MaybeCountAnswer::Got(n),
-        },
+        Err(r) => Err(r),
+        Ok(None) => Ok(None),
+        Ok(Some(m)) => {
+let n = access_flags::flags_into(m.flags, false, out)?;
+Ok(Some(n))
+}
     }
 }

@@ -1,8 +1,8 @@
 -- What the answers of the code say.
-use Rattle.std.specs.Prelude.{ℕ}
-use Rattle.refusal.specs.Outcome.{Outcome, answer, refused}
-use Rattle.class_walk.specs.declared.PassedAnswer as P
+use Rattle.std.specs.Prelude.{ℕ, Result}
+use Rattle.refusal.specs.Outcome.{Outcome}
+use Rattle.refusal.specs.Answers.{outcome}
+use Rattle.refusal.specs.declared.Refusal.{Refusal}
 
-abbrev pub passed_outcome : P.PassedAnswer → Outcome ℕ
-passed_outcome (P.TheVariants.To p) = answer p
-passed_outcome (P.TheVariants.Refused r) = refused r
+abbrev pub passed_outcome : Result ℕ Refusal → Outcome ℕ
+passed_outcome = outcome (λ (p : ℕ). p)

@@ -2,15 +2,15 @@
 // `s` ends where the data section ends, `item` is the place of the code item.
 #![tactic(auto)]
 
-ghost use Rattle.std.specs.Prelude.{◌≡◌, cond, ◌+◌, ◌*◌, ◌≤◌, length};
+ghost use Rattle.std.specs.Prelude.{◌≡◌, ◌+◌, ◌*◌, ◌≤◌, length};
 ghost use Rattle.code_bodies.specs.Tries.{try_at, try_allowed, kept_try, kept_link};
 ghost use Rattle.code_bodies.specs.Code.{linked_stage, listed_stage, parts_stage, body_stage, kept_code_at};
 ghost use Rattle.code_bodies.specs.Answers.{try_found, link_outcome, kept_code_outcome};
 
-use code_heads::{CodeHead, CodeHeadAnswer};
+use code_heads::CodeHead;
 use frame::Frame;
-use handlers::{Brief, BriefAnswer, HandlerJudge, HandlersAnswer, Pair};
-use refusal::Refusal;
+use handlers::{Brief, HandlerJudge, HandlerList, Pair};
+use refusal::{Read, Refusal};
 use word::Endian;
 
 // A try: its first unit, how many units, and its handler's offset from the handler list's first byte.
@@ -21,32 +21,17 @@ pub struct Try {
     pub handler: u16,
 }
 
-#[derive(Clone, Copy)]
-pub enum TryFoundAnswer {
-    Got(Try),
-    Refused(Refusal),
-}
-
-#[derive(Clone, Copy)]
-pub enum LinkAnswer {
-    Got(u32),
-    Refused(Refusal),
-}
-
 // The whole, with one try and its handler's number, and one handler.
 #[derive(Clone, Copy)]
-pub enum KeptCodeAnswer {
-    Got {
-        head: CodeHead,
-        attempt: Try,
-        link: u32,
-        handlers: u32,
-        brief: Brief,
-        from: usize,
-        base: usize,
-        end: usize,
-    },
-    Refused(Refusal),
+pub struct KeptCode {
+    pub head: CodeHead,
+    pub attempt: Try,
+    pub link: u32,
+    pub handlers: u32,
+    pub brief: Brief,
+    pub from: usize,
+    pub base: usize,
+    pub end: usize,
 }
 
 // The try at a place.
@@ -72,26 +57,6 @@ fn is_try_allowed(units: u32, floor: u64, t: Try) -> bool
     start + t.count as u64 <= units as u64
 }
 
-// The new try where it is the one asked for, or else the one that was kept.
-fn newer_try(asked: bool, new: Try, old: Try) -> Try
-    ensures { result ≡ cond asked new old }
-{
-    if asked {
-        return new;
-    }
-    old
-}
-
-// The new number where it is the one asked for, or else the one that was kept.
-fn newer_number(asked: bool, new: u32, old: u32) -> u32
-    ensures { result ≡ cond asked new old }
-{
-    if asked {
-        return new;
-    }
-    old
-}
-
 // All tries, of which number k is kept.
 fn tries_found(
     s: &[u8],
@@ -101,7 +66,7 @@ fn tries_found(
     from: usize,
     count: u16,
     k: u32,
-) -> TryFoundAnswer
+) -> Result<Try, Refusal>
     requires { from + 8 * count ≤ length s.now }
     ensures { try_found result ≡ kept_try order s.now units item from count k }
 {
@@ -112,21 +77,17 @@ fn tries_found(
         count: 0,
         handler: 0,
     };
-    let mut i: u32 = 0;
-    let mut left = count;
-    while 0 < left {
+    for i in 0..count {
         let t = try_read(s, order, place);
         if is_try_allowed(units, floor, t) {
-            kept = newer_try(i == k, t, kept);
+            kept = refusal::newer(i == k, t, kept);
             floor = t.start as u64 + t.count as u64;
         } else {
-            return TryFoundAnswer::Refused(refusal::wrong_code(item));
+            return Err(refusal::wrong_code(item));
         }
         place += 8;
-        i += 1;
-        left -= 1;
     }
-    TryFoundAnswer::Got(kept)
+    Ok(kept)
 }
 
 // The handler's number of each try, of which that of try k is kept. Each try's handler offset is looked for among the starts of the
@@ -140,7 +101,7 @@ fn links_at(
     from: usize,
     count: u16,
     k: u32,
-) -> LinkAnswer
+) -> Result<u32, Refusal>
     requires { from + 8 * count ≤ length s.now }
     ensures { link_outcome result ≡ kept_link order s.now j first handlers from count k }
 {
@@ -151,30 +112,20 @@ fn links_at(
     'tries: while 0 < left {
         let want = word::u16_at(s, place + 6, order) as usize;
         let mut p = first;
-        let mut number: u32 = 0;
-        let mut unseen = handlers;
-        while 0 < unseen {
-            match handlers::handler_found(s, j, p, 0) {
-                BriefAnswer::Refused(r) => {
-                    return LinkAnswer::Refused(r);
-                }
-                BriefAnswer::Got { brief, next } => {
-                    if brief.offset == want {
-                        kept = newer_number(i == k, number, kept);
+        for number in 0..handlers {
+            let Read { value: brief, next } = handlers::handler_found(s, j, p, 0)?;
+if brief.offset == want {
+                        kept = refusal::newer(i == k, number, kept);
                         place += 8;
                         i += 1;
                         left -= 1;
                         continue 'tries;
                     }
                     p = next;
-                }
-            }
-            number += 1;
-            unseen -= 1;
         }
-        return LinkAnswer::Refused(refusal::wrong_code(j.item));
+        return Err(refusal::wrong_code(j.item));
     }
-    LinkAnswer::Got(kept)
+    Ok(kept)
 }
 
 // The handler list of an item with tries, and then the tries' handler offsets.
@@ -188,31 +139,13 @@ fn linked_at(
     t: u32,
     h: u32,
     k: u32,
-) -> KeptCodeAnswer
+) -> Result<KeptCode, Refusal>
     requires { from + 8 * head.tries ≤ length s.now }
     ensures { kept_code_outcome result ≡ linked_stage s.now order j head attempt from t h k }
 {
-    match handlers::handlers_at(s, j, h, k) {
-        HandlersAnswer::Refused(r) => KeptCodeAnswer::Refused(r),
-        HandlersAnswer::Got {
-            count,
-            brief,
-            first,
-            end,
-        } => match links_at(s, order, j, first, count, from, head.tries, t) {
-            LinkAnswer::Refused(r) => KeptCodeAnswer::Refused(r),
-            LinkAnswer::Got(link) => KeptCodeAnswer::Got {
-                head,
-                attempt,
-                link,
-                handlers: count,
-                brief,
-                from,
-                base: j.base,
-                end,
-            },
-        },
-    }
+    let HandlerList { count, brief, first, end } = handlers::handlers_at(s, j, h, k)?;
+let link = links_at(s, order, j, first, count, from, head.tries, t)?;
+Ok(KeptCode { head, attempt, link, handlers: count, brief, from, base: j.base, end })
 }
 
 // Without tries there is no handler list.
@@ -226,7 +159,7 @@ fn listed_at(
     t: u32,
     h: u32,
     k: u32,
-) -> KeptCodeAnswer
+) -> Result<KeptCode, Refusal>
     requires { from + 8 * head.tries ≤ length s.now }
     ensures { kept_code_outcome result ≡ listed_stage s.now order j head attempt from t h k }
 {
@@ -234,25 +167,15 @@ fn listed_at(
     if 0 < tries {
         return linked_at(s, order, j, head, attempt, from, t, h, k);
     }
-    KeptCodeAnswer::Got {
-        head,
-        attempt,
-        link: 0,
-        handlers: 0,
-        brief: Brief {
+    Ok(KeptCode { head, attempt, link: 0, handlers: 0, brief: Brief {
             offset: 0,
             pairs: 0,
             pair: Pair {
                 kind: 0,
                 address: 0,
             },
-            caught: false,
-            all: 0,
-        },
-        from,
-        base: j.base,
-        end: j.base,
-    }
+            all: None,
+        }, from, base: j.base, end: j.base })
 }
 
 // The tries, and what follows them.
@@ -265,14 +188,12 @@ fn parts_at(
     t: u32,
     h: u32,
     k: u32,
-) -> KeptCodeAnswer
+) -> Result<KeptCode, Refusal>
     requires { from + 8 * head.tries ≤ length s.now }
     ensures { kept_code_outcome result ≡ parts_stage s.now order j head from t h k }
 {
-    match tries_found(s, order, head.units, j.item, from, head.tries, t) {
-        TryFoundAnswer::Refused(r) => KeptCodeAnswer::Refused(r),
-        TryFoundAnswer::Got(attempt) => listed_at(s, order, j, head, attempt, from, t, h, k),
-    }
+    let attempt = tries_found(s, order, head.units, j.item, from, head.tries, t)?;
+listed_at(s, order, j, head, attempt, from, t, h, k)
 }
 
 // What follows the head: its length first, up to the handler list.
@@ -284,20 +205,20 @@ fn body_at(
     t: u32,
     h: u32,
     k: u32,
-) -> KeptCodeAnswer
+) -> Result<KeptCode, Refusal>
     ensures { kept_code_outcome result ≡ body_stage s.now frame item head t h k }
 {
     let order = frame.order;
     let body = code_heads::body_size(head);
     let tries = 8 * head.tries as usize;
     if s.len() < item {
-        return KeptCodeAnswer::Refused(refusal::runs_past(item));
+        return Err(refusal::runs_past(item));
     }
     if s.len() - item < body {
-        return KeptCodeAnswer::Refused(refusal::runs_past(item));
+        return Err(refusal::runs_past(item));
     }
     if s.len() - item - body < tries {
-        return KeptCodeAnswer::Refused(refusal::runs_past(item));
+        return Err(refusal::runs_past(item));
     }
     let from = item + body;
     let j = HandlerJudge {
@@ -310,11 +231,9 @@ fn body_at(
 }
 
 // The whole, of which try t with its handler's number, and pair k of handler h, are kept.
-pub fn kept_at(s: &[u8], frame: Frame, item: usize, t: u32, h: u32, k: u32) -> KeptCodeAnswer
+pub fn kept_at(s: &[u8], frame: Frame, item: usize, t: u32, h: u32, k: u32) -> Result<KeptCode, Refusal>
     ensures { kept_code_outcome result ≡ kept_code_at s.now frame item t h k }
 {
-    match code_heads::head_at(s, frame, item) {
-        CodeHeadAnswer::Refused(r) => KeptCodeAnswer::Refused(r),
-        CodeHeadAnswer::Got(head) => body_at(s, frame, item, head, t, h, k),
-    }
+    let head = code_heads::head_at(s, frame, item)?;
+body_at(s, frame, item, head, t, h, k)
 }

@@ -20,29 +20,23 @@ pub struct CodeHead {
     pub units: u32,
 }
 
-#[derive(Clone, Copy)]
-pub enum CodeHeadAnswer {
-    Got(CodeHead),
-    Refused(Refusal),
-}
-
 // The head: 9 where a field is missing, 8 for the debug offset before what is stored after it.
-pub fn head_at(s: &[u8], frame: Frame, item: usize) -> CodeHeadAnswer
+pub fn head_at(s: &[u8], frame: Frame, item: usize) -> Result<CodeHead, Refusal>
     ensures { code_head_outcome result ≡ code_head_at s.now frame item }
 {
     let order = frame.order;
     if s.len() < item {
-        return CodeHeadAnswer::Refused(refusal::runs_past(item));
+        return Err(refusal::runs_past(item));
     }
     if s.len() - item < 12 {
-        return CodeHeadAnswer::Refused(refusal::runs_past(item));
+        return Err(refusal::runs_past(item));
     }
     let debug = word::u32_at(s, item + 8, order);
     if frame::is_allowed_or_absent(frame.start, s.len(), false, debug as usize) {
         if s.len() - item < 16 {
-            return CodeHeadAnswer::Refused(refusal::runs_past(item));
+            return Err(refusal::runs_past(item));
         }
-        return CodeHeadAnswer::Got(CodeHead {
+        return Ok(CodeHead {
             registers: word::u16_at(s, item, order),
             ins: word::u16_at(s, item + 2, order),
             outs: word::u16_at(s, item + 4, order),
@@ -51,7 +45,7 @@ pub fn head_at(s: &[u8], frame: Frame, item: usize) -> CodeHeadAnswer
             units: word::u32_at(s, item + 12, order),
         });
     }
-    CodeHeadAnswer::Refused(refusal::wrong_offset(item))
+    Err(refusal::wrong_offset(item))
 }
 
 // Two bytes of padding after an odd unit count, only if there are tries.

@@ -7,7 +7,7 @@ ghost use Rattle.code_item.specs.Covering.{cover_at};
 ghost use Rattle.code_item.specs.Code.{outline_at, covering_of, try_of, handler_of, pair_of, catch_in, pair_in};
 ghost use Rattle.code_item.specs.Answers.{code_outcome, try_outcome, catch_meant, handler_outcome, pair_outcome, cover_meant, cover_outcome};
 
-use code_bodies::{KeptCodeAnswer, Try};
+use code_bodies::{KeptCode, Try};
 use code_heads::CodeHead;
 use frame::Frame;
 use handlers::{Brief, Pair};
@@ -24,178 +24,86 @@ pub struct Outline {
     pub end: usize,
 }
 
-#[derive(Clone, Copy)]
-pub enum CodeAnswer {
-    Got(Outline),
-    Refused(Refusal),
-}
-
 // A try, and the number of its handler in the list.
 #[derive(Clone, Copy)]
-pub enum TryAnswer {
-    Got { attempt: Try, number: u32 },
-    Refused(Refusal),
-}
-
-// Where the catch-all begins.
-#[derive(Clone, Copy)]
-pub enum Catch {
-    Absent,
-    At(u32),
+pub struct NumberedTry {
+    pub attempt: Try,
+    pub number: u32,
 }
 
 #[derive(Clone, Copy)]
-pub enum HandlerAnswer {
-    Got {
-        offset: usize,
-        pairs: u32,
-        all: Catch,
-    },
-    Refused(Refusal),
-}
-
-#[derive(Clone, Copy)]
-pub enum PairAnswer {
-    Got(Pair),
-    Refused(Refusal),
-}
-
-// The number of the try that covers an address.
-#[derive(Clone, Copy)]
-pub enum CoveringTry {
-    Absent,
-    Number(u32),
-}
-
-#[derive(Clone, Copy)]
-pub enum CoveringTryAnswer {
-    Got(CoveringTry),
-    Refused(Refusal),
+pub struct HandlerOutline {
+    pub offset: usize,
+    pub pairs: u32,
+    pub all: Option<u32>,
 }
 
 // The code item at a place.
-pub fn code_at(s: &[u8], frame: Frame, item: usize) -> CodeAnswer
+pub fn code_at(s: &[u8], frame: Frame, item: usize) -> Result<Outline, Refusal>
     ensures { code_outcome result ≡ outline_at s.now frame item }
 {
-    match code_bodies::kept_at(s, frame, item, 0, 0, 0) {
-        KeptCodeAnswer::Refused(r) => CodeAnswer::Refused(r),
-        KeptCodeAnswer::Got {
-            head,
-            attempt: _,
-            link: _,
-            handlers,
-            brief: _,
-            from,
-            base,
-            end,
-        } => CodeAnswer::Got(Outline {
+    let KeptCode { head, handlers, from, base, end, .. } = code_bodies::kept_at(s, frame, item, 0, 0, 0)?;
+Ok(Outline {
             head,
             handlers,
             from,
             base,
             end,
-        }),
-    }
+        })
 }
 
 // Try t of the code item at a place.
-pub fn try_at(s: &[u8], frame: Frame, item: usize, t: u32) -> TryAnswer
+pub fn try_at(s: &[u8], frame: Frame, item: usize, t: u32) -> Result<NumberedTry, Refusal>
     ensures { try_outcome result ≡ try_of s.now frame item t }
 {
-    match code_bodies::kept_at(s, frame, item, t, 0, 0) {
-        KeptCodeAnswer::Refused(r) => TryAnswer::Refused(r),
-        KeptCodeAnswer::Got {
-            head,
-            attempt,
-            link,
-            handlers: _,
-            brief: _,
-            from: _,
-            base: _,
-            end: _,
-        } => {
-            if t < head.tries as u32 {
-                return TryAnswer::Got {
-                    attempt,
-                    number: link,
-                };
+    let KeptCode { head, attempt, link, .. } = code_bodies::kept_at(s, frame, item, t, 0, 0)?;
+if t < head.tries as u32 {
+                return Ok(NumberedTry { attempt, number: link });
             }
-            TryAnswer::Refused(refusal::not_there())
-        }
-    }
+            Err(refusal::not_there())
 }
 
 // The catch-all of a handler.
-fn catch_in(b: Brief) -> Catch
+fn catch_in(b: Brief) -> Option<u32>
     ensures { catch_meant result ≡ catch_in b }
 {
     if b.caught {
-        return Catch::At(b.all);
+        return Some(b.all);
     }
-    Catch::Absent
+    None
 }
 
 // Handler h of the code item at a place.
-pub fn handler_at(s: &[u8], frame: Frame, item: usize, h: u32) -> HandlerAnswer
+pub fn handler_at(s: &[u8], frame: Frame, item: usize, h: u32) -> Result<HandlerOutline, Refusal>
     ensures { handler_outcome result ≡ handler_of s.now frame item h }
 {
-    match code_bodies::kept_at(s, frame, item, 0, h, 0) {
-        KeptCodeAnswer::Refused(r) => HandlerAnswer::Refused(r),
-        KeptCodeAnswer::Got {
-            head: _,
-            attempt: _,
-            link: _,
-            handlers,
-            brief,
-            from: _,
-            base: _,
-            end: _,
-        } => {
-            if h < handlers {
-                return HandlerAnswer::Got {
-                    offset: brief.offset,
-                    pairs: brief.pairs,
-                    all: catch_in(brief),
-                };
+    let KeptCode { handlers, brief, .. } = code_bodies::kept_at(s, frame, item, 0, h, 0)?;
+if h < handlers {
+                return Ok(HandlerOutline { offset: brief.offset, pairs: brief.pairs, all: catch_in(brief) });
             }
-            HandlerAnswer::Refused(refusal::not_there())
-        }
-    }
+            Err(refusal::not_there())
 }
 
 // The pair that is kept of a handler, where it is there.
-fn pair_in(b: Brief, k: u32) -> PairAnswer
+fn pair_in(b: Brief, k: u32) -> Result<Pair, Refusal>
     ensures { pair_outcome result ≡ pair_in b k }
 {
     let pair = b.pair;
     if k < b.pairs {
-        return PairAnswer::Got(pair);
+        return Ok(pair);
     }
-    PairAnswer::Refused(refusal::not_there())
+    Err(refusal::not_there())
 }
 
 // Pair k of handler h of the code item at a place.
-pub fn pair_at(s: &[u8], frame: Frame, item: usize, h: u32, k: u32) -> PairAnswer
+pub fn pair_at(s: &[u8], frame: Frame, item: usize, h: u32, k: u32) -> Result<Pair, Refusal>
     ensures { pair_outcome result ≡ pair_of s.now frame item h k }
 {
-    match code_bodies::kept_at(s, frame, item, 0, h, k) {
-        KeptCodeAnswer::Refused(r) => PairAnswer::Refused(r),
-        KeptCodeAnswer::Got {
-            head: _,
-            attempt: _,
-            link: _,
-            handlers,
-            brief,
-            from: _,
-            base: _,
-            end: _,
-        } => {
-            if h < handlers {
+    let KeptCode { handlers, brief, .. } = code_bodies::kept_at(s, frame, item, 0, h, k)?;
+if h < handlers {
                 return pair_in(brief, k);
             }
-            PairAnswer::Refused(refusal::not_there())
-        }
-    }
+            Err(refusal::not_there())
 }
 
 // Does a try of `count` units from `start` on cover an address.
@@ -209,42 +117,27 @@ fn is_covering(start: u32, count: u16, address: u32) -> bool
 }
 
 // The first try that covers an address, of those that lie from a place on.
-fn cover_at(s: &[u8], order: Endian, from: usize, count: u16, address: u32) -> CoveringTry
+fn cover_at(s: &[u8], order: Endian, from: usize, count: u16, address: u32) -> Option<u32>
     requires { from + 8 * count ≤ length s.now }
     ensures { cover_meant result ≡ cover_at order s.now from count address }
 {
     let mut place = from;
-    let mut i: u32 = 0;
-    let mut left = count;
-    while 0 < left {
+    for i in 0..count {
         let start = word::u32_at(s, place, order);
         let units = word::u16_at(s, place + 4, order);
         if is_covering(start, units, address) {
-            return CoveringTry::Number(i);
+            return Some(i);
         }
         place += 8;
-        i += 1;
-        left -= 1;
     }
-    CoveringTry::Absent
+    None
 }
 
 // The try that covers an address, of the code item at a place.
-pub fn covering_try(s: &[u8], frame: Frame, item: usize, address: u32) -> CoveringTryAnswer
+pub fn covering_try(s: &[u8], frame: Frame, item: usize, address: u32) -> Result<Option<u32>, Refusal>
     ensures { cover_outcome result ≡ covering_of s.now frame item address }
 {
     let order = frame.order;
-    match code_bodies::kept_at(s, frame, item, 0, 0, 0) {
-        KeptCodeAnswer::Refused(r) => CoveringTryAnswer::Refused(r),
-        KeptCodeAnswer::Got {
-            head,
-            attempt: _,
-            link: _,
-            handlers: _,
-            brief: _,
-            from,
-            base: _,
-            end: _,
-        } => CoveringTryAnswer::Got(cover_at(s, order, from, head.tries, address)),
-    }
+    let KeptCode { head, from, .. } = code_bodies::kept_at(s, frame, item, 0, 0, 0)?;
+Ok(cover_at(s, order, from, head.tries, address))
 }

@@ -6,74 +6,70 @@ ghost use Rattle.code_readers.specs.Code.{units_into, units_written, units_under
 ghost use Rattle.class_readers.specs.Answers.{maybe_count};
 ghost use Rattle.code_readers.specs.Answers.{maybe_code, maybe_try, maybe_handler, maybe_pair};
 
-use super::{MaybeCodeAnswer, MaybeHandlerAnswer, MaybePairAnswer, MaybeTryAnswer};
-use class_readers::{MaybeCountAnswer, Spot, SpotAnswer};
-use code_item::{CodeAnswer, CoveringTry, CoveringTryAnswer, HandlerAnswer, PairAnswer, TryAnswer};
-use code_units::UnitsAnswer;
+use super::{Result<Option<Outline>, Refusal>, Result<Option<HandlerOutline>, Refusal>, Result<Option<Pair>, Refusal>, Result<Option<NumberedTry>, Refusal>};
+use class_readers::Spot;
+use refusal::Refusal;
+use code_item::{HandlerOutline, NumberedTry};
 
-fn outline_under(f: &[u8], spot: Spot) -> MaybeCodeAnswer
+fn outline_under(f: &[u8], spot: Spot) -> Result<Option<Outline>, Refusal>
     ensures { maybe_code result ≡ outline_under f.now spot }
 {
     let header = spot.header;
-    match code_item::code_at(
+    let o = code_item::code_at(
         header::up_to_end(f, header),
         header::plain_frame(header),
         spot.place as usize,
-    ) {
-        CodeAnswer::Refused(r) => MaybeCodeAnswer::Refused(r),
-        CodeAnswer::Got(o) => MaybeCodeAnswer::Got(o),
-    }
+    )?;
+Ok(Some(o))
 }
 
 // The sizes, counts and places of the code of method k of a list of class c.
-pub fn code(f: &[u8], c: u32, list: u32, k: u32) -> MaybeCodeAnswer
+pub fn code(f: &[u8], c: u32, list: u32, k: u32) -> Result<Option<Outline>, Refusal>
     ensures { maybe_code result ≡ method_code f.now c list k }
 {
     match class_readers::method_spot(f, c, list, k) {
-        SpotAnswer::Refused(r) => MaybeCodeAnswer::Refused(r),
-        SpotAnswer::Absent => MaybeCodeAnswer::Absent,
-        SpotAnswer::Got(spot) => outline_under(f, spot),
+        Err(r) => Err(r),
+        Ok(None) => Ok(None),
+        Ok(Some(spot)) => outline_under(f, spot),
     }
 }
 
 // How many handlers it has.
-pub fn handler_count(f: &[u8], c: u32, list: u32, k: u32) -> MaybeCountAnswer
+pub fn handler_count(f: &[u8], c: u32, list: u32, k: u32) -> Result<Option<usize>, Refusal>
     ensures { maybe_count result ≡ handler_count f.now c list k }
 {
     match code(f, c, list, k) {
-        MaybeCodeAnswer::Refused(r) => MaybeCountAnswer::Refused(r),
-        MaybeCodeAnswer::Absent => MaybeCountAnswer::Absent,
-        MaybeCodeAnswer::Got(o) => MaybeCountAnswer::Got(o.handlers as usize),
+        Err(r) => Err(r),
+        Ok(None) => Ok(None),
+        Ok(Some(o)) => Ok(Some(o.handlers as usize)),
     }
 }
 
-fn try_under(f: &[u8], spot: Spot, t: u32) -> MaybeTryAnswer
+fn try_under(f: &[u8], spot: Spot, t: u32) -> Result<Option<NumberedTry>, Refusal>
     ensures { maybe_try result ≡ try_under f.now t spot }
 {
     let header = spot.header;
-    match code_item::try_at(
+    let NumberedTry { attempt, number } = code_item::try_at(
         header::up_to_end(f, header),
         header::plain_frame(header),
         spot.place as usize,
         t,
-    ) {
-        TryAnswer::Refused(r) => MaybeTryAnswer::Refused(r),
-        TryAnswer::Got { attempt, number } => MaybeTryAnswer::Got { attempt, number },
-    }
+    )?;
+Ok(Some(NumberedTry { attempt, number }))
 }
 
 // Try t of it.
-pub fn try_item(f: &[u8], c: u32, list: u32, k: u32, t: u32) -> MaybeTryAnswer
+pub fn try_item(f: &[u8], c: u32, list: u32, k: u32, t: u32) -> Result<Option<NumberedTry>, Refusal>
     ensures { maybe_try result ≡ try_number f.now c list k t }
 {
     match class_readers::method_spot(f, c, list, k) {
-        SpotAnswer::Refused(r) => MaybeTryAnswer::Refused(r),
-        SpotAnswer::Absent => MaybeTryAnswer::Absent,
-        SpotAnswer::Got(spot) => try_under(f, spot, t),
+        Err(r) => Err(r),
+        Ok(None) => Ok(None),
+        Ok(Some(spot)) => try_under(f, spot, t),
     }
 }
 
-fn cover_under(f: &[u8], spot: Spot, address: u32) -> CoveringTryAnswer
+fn cover_under(f: &[u8], spot: Spot, address: u32) -> Result<Option<u32>, Refusal>
     ensures { cover_outcome result ≡ cover_under f.now address spot }
 {
     let header = spot.header;
@@ -86,114 +82,104 @@ fn cover_under(f: &[u8], spot: Spot, address: u32) -> CoveringTryAnswer
 }
 
 // The number of its try that covers an address; where there is no code, no try does.
-pub fn covering_try(f: &[u8], c: u32, list: u32, k: u32, address: u32) -> CoveringTryAnswer
+pub fn covering_try(f: &[u8], c: u32, list: u32, k: u32, address: u32) -> Result<Option<u32>, Refusal>
     ensures { cover_outcome result ≡ covering_try f.now c list k address }
 {
     match class_readers::method_spot(f, c, list, k) {
-        SpotAnswer::Refused(r) => CoveringTryAnswer::Refused(r),
-        SpotAnswer::Absent => CoveringTryAnswer::Got(CoveringTry::Absent),
-        SpotAnswer::Got(spot) => cover_under(f, spot, address),
+        Err(r) => Err(r),
+        Ok(None) => Ok(None),
+        Ok(Some(spot)) => cover_under(f, spot, address),
     }
 }
 
-fn handler_under(f: &[u8], spot: Spot, number: u32) -> MaybeHandlerAnswer
+fn handler_under(f: &[u8], spot: Spot, number: u32) -> Result<Option<HandlerOutline>, Refusal>
     ensures { maybe_handler result ≡ handler_under f.now number spot }
 {
     let header = spot.header;
-    match code_item::handler_at(
+    let HandlerOutline { offset, pairs, all } = code_item::handler_at(
         header::up_to_end(f, header),
         header::plain_frame(header),
         spot.place as usize,
         number,
-    ) {
-        HandlerAnswer::Refused(r) => MaybeHandlerAnswer::Refused(r),
-        HandlerAnswer::Got { offset, pairs, all } => MaybeHandlerAnswer::Got { offset, pairs, all },
-    }
+    )?;
+Ok(Some(HandlerOutline { offset, pairs, all }))
 }
 
 // A handler of it.
-pub fn handler(f: &[u8], c: u32, list: u32, k: u32, number: u32) -> MaybeHandlerAnswer
+pub fn handler(f: &[u8], c: u32, list: u32, k: u32, number: u32) -> Result<Option<HandlerOutline>, Refusal>
     ensures { maybe_handler result ≡ handler_number f.now c list k number }
 {
     match class_readers::method_spot(f, c, list, k) {
-        SpotAnswer::Refused(r) => MaybeHandlerAnswer::Refused(r),
-        SpotAnswer::Absent => MaybeHandlerAnswer::Absent,
-        SpotAnswer::Got(spot) => handler_under(f, spot, number),
+        Err(r) => Err(r),
+        Ok(None) => Ok(None),
+        Ok(Some(spot)) => handler_under(f, spot, number),
     }
 }
 
-fn pair_under(f: &[u8], spot: Spot, number: u32, p: u32) -> MaybePairAnswer
+fn pair_under(f: &[u8], spot: Spot, number: u32, p: u32) -> Result<Option<Pair>, Refusal>
     ensures { maybe_pair result ≡ pair_under f.now number p spot }
 {
     let header = spot.header;
-    match code_item::pair_at(
+    let pair = code_item::pair_at(
         header::up_to_end(f, header),
         header::plain_frame(header),
         spot.place as usize,
         number,
         p,
-    ) {
-        PairAnswer::Refused(r) => MaybePairAnswer::Refused(r),
-        PairAnswer::Got(pair) => MaybePairAnswer::Got(pair),
-    }
+    )?;
+Ok(Some(pair))
 }
 
 // Pair p of a handler of it.
-pub fn handler_pair(f: &[u8], c: u32, list: u32, k: u32, number: u32, p: u32) -> MaybePairAnswer
+pub fn handler_pair(f: &[u8], c: u32, list: u32, k: u32, number: u32, p: u32) -> Result<Option<Pair>, Refusal>
     ensures { maybe_pair result ≡ handler_pair f.now c list k number p }
 {
     match class_readers::method_spot(f, c, list, k) {
-        SpotAnswer::Refused(r) => MaybePairAnswer::Refused(r),
-        SpotAnswer::Absent => MaybePairAnswer::Absent,
-        SpotAnswer::Got(spot) => pair_under(f, spot, number, p),
+        Err(r) => Err(r),
+        Ok(None) => Ok(None),
+        Ok(Some(spot)) => pair_under(f, spot, number, p),
     }
 }
 
 // So many units of the code at a place.
-fn units_into(f: &[u8], spot: Spot, count: u32, out: &mut [u16]) -> MaybeCountAnswer
+fn units_into(f: &[u8], spot: Spot, count: u32, out: &mut [u16]) -> Result<Option<usize>, Refusal>
     ensures answer { maybe_count result ≡ units_into f.now spot count (length out.old) }
     ensures content { out.new ≡ units_written f.now spot count out.old }
 {
     let header = spot.header;
     let order = header.order;
-    match code_units::units_into(
+    let n = code_units::units_into(
         header::up_to_end(f, header),
         order,
         spot.place as usize + 16,
         count,
         out,
-    ) {
-        UnitsAnswer::Refused(r) => MaybeCountAnswer::Refused(r),
-        UnitsAnswer::Written(n) => MaybeCountAnswer::Got(n as usize),
-    }
+    )?;
+Ok(Some(n as usize))
 }
 
-fn units_under(f: &[u8], spot: Spot, out: &mut [u16]) -> MaybeCountAnswer
+fn units_under(f: &[u8], spot: Spot, out: &mut [u16]) -> Result<Option<usize>, Refusal>
     ensures answer { maybe_count result ≡ units_under f.now (length out.old) spot }
     ensures content { out.new ≡ units_over (code_in f.now spot) out.old }
 {
     let header = spot.header;
-    match code_item::code_at(
+    let o = code_item::code_at(
         header::up_to_end(f, header),
         header::plain_frame(header),
         spot.place as usize,
-    ) {
-        CodeAnswer::Refused(r) => MaybeCountAnswer::Refused(r),
-        CodeAnswer::Got(o) => {
-            let head = o.head;
+    )?;
+let head = o.head;
             units_into(f, spot, head.units, out)
-        }
-    }
 }
 
 // Its units in a lent output: how many; 19, writing nothing, where the output is shorter.
-pub fn units(f: &[u8], c: u32, list: u32, k: u32, out: &mut [u16]) -> MaybeCountAnswer
+pub fn units(f: &[u8], c: u32, list: u32, k: u32, out: &mut [u16]) -> Result<Option<usize>, Refusal>
     ensures answer { maybe_count result ≡ method_units f.now c list k (length out.old) }
     ensures content { out.new ≡ units_content f.now c list k out.old }
 {
     match class_readers::method_spot(f, c, list, k) {
-        SpotAnswer::Refused(r) => MaybeCountAnswer::Refused(r),
-        SpotAnswer::Absent => MaybeCountAnswer::Absent,
-        SpotAnswer::Got(spot) => units_under(f, spot, out),
+        Err(r) => Err(r),
+        Ok(None) => Ok(None),
+        Ok(Some(spot)) => units_under(f, spot, out),
     }
 }

@@ -1,8 +1,8 @@
 -- What the answers of the code say.
-use Rattle.std.specs.Prelude.{ℕ}
-use Rattle.refusal.specs.Outcome.{Outcome, answer, refused}
-use Rattle.code_units.specs.declared.UnitsAnswer as U
+use Rattle.std.specs.Prelude.{ℕ, Result}
+use Rattle.refusal.specs.Outcome.{Outcome}
+use Rattle.refusal.specs.Answers.{outcome}
+use Rattle.refusal.specs.declared.Refusal.{Refusal}
 
-abbrev pub units_outcome : U.UnitsAnswer → Outcome ℕ
-units_outcome (U.TheVariants.Written n) = answer n
-units_outcome (U.TheVariants.Refused r) = refused r
+abbrev pub units_outcome : Result ℕ Refusal → Outcome ℕ
+units_outcome = outcome (λ (n : ℕ). n)

@@ -6,122 +6,56 @@ ghost use Rattle.std.specs.Prelude.{◌≡◌, cond};
 ghost use Rattle.debug_info.specs.Debug.{named, name_at, kept_names, zero_at, body_at, kept_debug_at, extent_at, name_of};
 ghost use Rattle.debug_info.specs.Answers.{name_meant, name_found_outcome, zero_outcome, kept_debug_outcome, debug_outcome, name_outcome};
 
-use leb128::{LebAnswer, PlusOneAnswer};
-use refusal::Refusal;
-
-// A parameter's name: none, or the number of a string.
-#[derive(Clone, Copy)]
-pub enum Name {
-    Absent,
-    Given(u32),
-}
-
-// A name as it is read, and the place after it.
-#[derive(Clone, Copy)]
-pub enum NameFoundAnswer {
-    Got { name: Name, next: usize },
-    Refused(Refusal),
-}
-
-// The place of the zero byte that ends a line program.
-#[derive(Clone, Copy)]
-pub enum ZeroAnswer {
-    Got(usize),
-    Refused(Refusal),
-}
+use refusal::{Read, Refusal};
 
 // The whole, with one name kept.
 #[derive(Clone, Copy)]
-pub enum KeptDebugAnswer {
-    Got {
-        line: u32,
-        names: u32,
-        name: Name,
-        start: usize,
-        length: usize,
-    },
-    Refused(Refusal),
+pub struct KeptDebug {
+    pub line: u32,
+    pub names: u32,
+    pub name: Option<u32>,
+    pub start: usize,
+    pub length: usize,
 }
 
 // The starting line, how many names, and where the line program lies, without its zero byte.
 #[derive(Clone, Copy)]
-pub enum DebugAnswer {
-    Got {
-        line: u32,
-        names: u32,
-        start: usize,
-        length: usize,
-    },
-    Refused(Refusal),
-}
-
-#[derive(Clone, Copy)]
-pub enum NameAnswer {
-    Got(Name),
-    Refused(Refusal),
+pub struct DebugOutline {
+    pub line: u32,
+    pub names: u32,
+    pub start: usize,
+    pub length: usize,
 }
 
 // A name where it stands: 11 where it is a string that is not there.
-fn name_found(s: &[u8], strings: u32, item: usize, at: usize) -> NameFoundAnswer
+fn name_found(s: &[u8], strings: u32, item: usize, at: usize) -> Result<Read<Option<u32>>, Refusal>
     ensures { name_found_outcome result ≡ name_at s.now strings item at }
 {
-    match leb128::uleb_p1(s, at, item) {
-        PlusOneAnswer::Refused(r) => NameFoundAnswer::Refused(r),
-        PlusOneAnswer::Absent { next } => NameFoundAnswer::Got {
-            name: Name::Absent,
-            next,
-        },
-        PlusOneAnswer::Got { value, next } => {
-            if value < strings {
-                return NameFoundAnswer::Got {
-                    name: Name::Given(value),
-                    next,
-                };
-            }
-            NameFoundAnswer::Refused(refusal::wrong_index(item))
+    let name = leb128::uleb_p1(s, at, item)?;
+    if let Some(v) = name.value {
+        if strings <= v {
+            return Err(refusal::wrong_index(item));
         }
     }
-}
-
-// The new name where it is the one asked for, or else the one that was kept.
-fn newer(asked: bool, new: Name, old: Name) -> Name
-    ensures { result ≡ cond asked new old }
-{
-    if asked {
-        return new;
-    }
-    old
+    Ok(name)
 }
 
 // All names, of which number k is kept.
-fn names_at(s: &[u8], strings: u32, item: usize, from: usize, count: u32, k: u32) -> NameFoundAnswer
+fn names_at(s: &[u8], strings: u32, item: usize, from: usize, count: u32, k: u32) -> Result<Read<Option<u32>>, Refusal>
     ensures { name_found_outcome result ≡ kept_names s.now strings item from count k }
 {
     let mut p = from;
-    let mut kept = Name::Absent;
-    let mut i: u32 = 0;
-    let mut left = count;
-    while 0 < left {
-        match name_found(s, strings, item, p) {
-            NameFoundAnswer::Refused(r) => {
-                return NameFoundAnswer::Refused(r);
-            }
-            NameFoundAnswer::Got { name, next } => {
-                kept = newer(i == k, name, kept);
+    let mut kept = None;
+    for i in 0..count {
+        let Read { value: name, next } = name_found(s, strings, item, p)?;
+kept = refusal::newer(i == k, name, kept);
                 p = next;
-            }
-        }
-        i += 1;
-        left -= 1;
     }
-    NameFoundAnswer::Got {
-        name: kept,
-        next: p,
-    }
+    Ok(Read { value: kept, next: p })
 }
 
 // The first zero byte from `start` on.
-fn zero_at(s: &[u8], item: usize, start: usize) -> ZeroAnswer
+fn zero_at(s: &[u8], item: usize, start: usize) -> Result<usize, Refusal>
     ensures { zero_outcome result ≡ zero_at s.now item start }
 {
     let mut p = start;
@@ -130,9 +64,9 @@ fn zero_at(s: &[u8], item: usize, start: usize) -> ZeroAnswer
             p += 1;
             continue;
         }
-        return ZeroAnswer::Got(p);
+        return Ok(p);
     }
-    ZeroAnswer::Refused(refusal::runs_past(item))
+    Err(refusal::runs_past(item))
 }
 
 // The names and the line program.
@@ -144,78 +78,38 @@ fn body_at(
     from: usize,
     count: u32,
     k: u32,
-) -> KeptDebugAnswer
+) -> Result<KeptDebug, Refusal>
     ensures { kept_debug_outcome result ≡ body_at s.now strings item line from count k }
 {
-    match names_at(s, strings, item, from, count, k) {
-        NameFoundAnswer::Refused(r) => KeptDebugAnswer::Refused(r),
-        NameFoundAnswer::Got { name, next } => match zero_at(s, item, next) {
-            ZeroAnswer::Refused(r) => KeptDebugAnswer::Refused(r),
-            ZeroAnswer::Got(zero) => KeptDebugAnswer::Got {
-                line,
-                names: count,
-                name,
-                start: next,
-                length: zero - next,
-            },
-        },
-    }
+    let Read { value: name, next } = names_at(s, strings, item, from, count, k)?;
+let zero = zero_at(s, item, next)?;
+Ok(KeptDebug { line, names: count, name, start: next, length: zero - next })
 }
 
 // The whole, of which name k is kept.
-fn kept_at(s: &[u8], strings: u32, item: usize, k: u32) -> KeptDebugAnswer
+fn kept_at(s: &[u8], strings: u32, item: usize, k: u32) -> Result<KeptDebug, Refusal>
     ensures { kept_debug_outcome result ≡ kept_debug_at s.now strings item k }
 {
-    match leb128::uleb(s, item, item) {
-        LebAnswer::Refused(r) => KeptDebugAnswer::Refused(r),
-        LebAnswer::Got { value: line, next } => match leb128::uleb(s, next, item) {
-            LebAnswer::Refused(r) => KeptDebugAnswer::Refused(r),
-            LebAnswer::Got {
-                value: count,
-                next: from,
-            } => body_at(s, strings, item, line, from, count, k),
-        },
-    }
+    let Read { value: line, next } = leb128::uleb(s, item, item)?;
+let Read { value: count, next: from } = leb128::uleb(s, next, item)?;
+body_at(s, strings, item, line, from, count, k)
 }
 
 // The debug information at a place.
-pub fn debug_at(s: &[u8], strings: u32, item: usize) -> DebugAnswer
+pub fn debug_at(s: &[u8], strings: u32, item: usize) -> Result<DebugOutline, Refusal>
     ensures { debug_outcome result ≡ extent_at s.now strings item }
 {
-    match kept_at(s, strings, item, 0) {
-        KeptDebugAnswer::Refused(r) => DebugAnswer::Refused(r),
-        KeptDebugAnswer::Got {
-            line,
-            names,
-            name: _,
-            start,
-            length,
-        } => DebugAnswer::Got {
-            line,
-            names,
-            start,
-            length,
-        },
-    }
+    let KeptDebug { line, names, start, length, .. } = kept_at(s, strings, item, 0)?;
+Ok(DebugOutline { line, names, start, length })
 }
 
-// Name k of the debug information at a place.
-pub fn name_at(s: &[u8], strings: u32, item: usize, k: u32) -> NameAnswer
+// Option<u32> k of the debug information at a place.
+pub fn name_at(s: &[u8], strings: u32, item: usize, k: u32) -> Result<Option<u32>, Refusal>
     ensures { name_outcome result ≡ name_of s.now strings item k }
 {
-    match kept_at(s, strings, item, k) {
-        KeptDebugAnswer::Refused(r) => NameAnswer::Refused(r),
-        KeptDebugAnswer::Got {
-            line: _,
-            names,
-            name,
-            start: _,
-            length: _,
-        } => {
-            if k < names {
-                return NameAnswer::Got(name);
+    let KeptDebug { names, name, .. } = kept_at(s, strings, item, k)?;
+if k < names {
+                return Ok(name);
             }
-            NameAnswer::Refused(refusal::not_there())
-        }
-    }
+            Err(refusal::not_there())
 }

@@ -1,12 +1,15 @@
 -- One value read out, as a reading.
-use Rattle.std.specs.Prelude.{ℕ, List}
-use Rattle.refusal.specs.Outcome.{Outcome, answer, refused, ◌>>=◌}
+use Rattle.std.specs.Prelude.{ℕ, List, Result}
+use Rattle.refusal.specs.Outcome.{Outcome, answer, ◌>>=◌}
 use Rattle.refusal.specs.Rows.{Found}
 use Rattle.value_heads.specs.declared.Walk.{Walk}
 use Rattle.encoded_value.specs.Tree.{Tree}
 use Rattle.encoded_value.specs.Readings.{value_at, array_at, annotation_at, as_array, as_annotation}
 use Rattle.decoded_value.specs.Shown.{Shown, shown, value_shown}
-use Rattle.decoded_value.specs.declared.DecodedAnswer as D
+use Rattle.refusal.specs.Answers.{found, outcome}
+use Rattle.refusal.specs.declared.Refusal.{Refusal}
+use Rattle.decoded_value.specs.declared.Value as V
+use Rattle.refusal.specs.declared.Read as R
 
 abbrev pub read_out : Found Tree ℕ → Outcome (Found Shown ℕ)
 read_out r = answer (record { item = shown r.item; next = r.next })
@@ -23,6 +26,5 @@ unfoldable pub decoded_annotation : List ℕ → Walk → ℕ → ℕ → Outcom
 decoded_annotation s w left p = annotation_at s w left p >>= as_annotation p >>= read_out
 
 -- what the answer of the code says
-abbrev pub decoded_outcome : D.DecodedAnswer → Outcome (Found Shown ℕ)
-decoded_outcome (D.TheVariants.Got v n) = answer (record { item = value_shown v; next = n })
-decoded_outcome (D.TheVariants.Refused r) = refused r
+abbrev pub decoded_outcome : Result (R.Read V.Value) Refusal → Outcome (Found Shown ℕ)
+decoded_outcome = outcome (found (λ (v : V.Value). value_shown v))

@@ -11,9 +11,8 @@ ghost use Rattle.decoded_value.specs.Shown.{shown, value_shown};
 ghost use Rattle.decoded_value.specs.Sizes.{Sized, Fitting};
 ghost use Rattle.decoded_value.specs.Readings.{decoded_at, decoded_array, decoded_annotation, decoded_outcome};
 
-use encoded_value::StepAnswer;
-use refusal::Refusal;
-use value_heads::{HeadByteAnswer, NumberAnswer, Walk};
+use refusal::{Read, Refusal};
+use value_heads::Walk;
 
 #[derive(Clone, Copy)]
 pub enum Value {
@@ -29,12 +28,6 @@ pub enum Value {
     Annotation { offset: usize, length: usize },
     Null,
     Boolean(bool),
-}
-
-#[derive(Clone, Copy)]
-pub enum DecodedAnswer {
-    Got { value: Value, next: usize },
-    Refused(Refusal),
 }
 
 // The two ways from an unsigned number to a signed one.
@@ -198,60 +191,41 @@ fn plain_of(head: u8, x: u64) -> Value
 }
 
 // A nested array behind its head byte at a place: where its body lies.
-fn array_at(s: &[u8], w: Walk, at: usize, left: u32) -> DecodedAnswer
+fn array_at(s: &[u8], w: Walk, at: usize, left: u32) -> Result<Read<Value>, Refusal>
     requires { at < length s.now }
     ensures { decoded_outcome result ≡ decoded_array s.now w left (at + 1) }
 {
-    match encoded_value::array_body(s, w, at + 1, left) {
-        StepAnswer::Refused(r) => DecodedAnswer::Refused(r),
-        StepAnswer::Next(next) => DecodedAnswer::Got {
-            value: Value::Array {
+    let next = encoded_value::array_body(s, w, at + 1, left)?;
+Ok(Read { value: Value::Array {
                 offset: at + 1,
                 length: next - at - 1,
-            },
-            next,
-        },
-    }
+            }, next })
 }
 
 // The same for a nested annotation.
-fn annotation_at(s: &[u8], w: Walk, at: usize, left: u32) -> DecodedAnswer
+fn annotation_at(s: &[u8], w: Walk, at: usize, left: u32) -> Result<Read<Value>, Refusal>
     requires { at < length s.now }
     ensures { decoded_outcome result ≡ decoded_annotation s.now w left (at + 1) }
 {
-    match encoded_value::annotation_body(s, w, at + 1, left) {
-        StepAnswer::Refused(r) => DecodedAnswer::Refused(r),
-        StepAnswer::Next(end) => DecodedAnswer::Got {
-            value: Value::Annotation {
+    let end = encoded_value::annotation_body(s, w, at + 1, left)?;
+Ok(Read { value: Value::Annotation {
                 offset: at + 1,
                 length: end - at - 1,
-            },
-            next: end,
-        },
-    }
+            }, next: end })
 }
 
 // The value at a place where so many bodies may still be opened.
-pub fn decode_at(s: &[u8], w: Walk, at: usize, left: u32) -> DecodedAnswer
+pub fn decode_at(s: &[u8], w: Walk, at: usize, left: u32) -> Result<Read<Value>, Refusal>
     ensures { decoded_outcome result ≡ decoded_at s.now w left at }
 {
-    match value_heads::head_at(s, w.item, at) {
-        HeadByteAnswer::Refused(r) => DecodedAnswer::Refused(r),
-        HeadByteAnswer::Got(head) => {
-            let code = head % 32;
+    let head = value_heads::head_at(s, w.item, at)?;
+let code = head % 32;
             if code == 0x1c {
                 return array_at(s, w, at, left);
             }
             if code == 0x1d {
                 return annotation_at(s, w, at, left);
             }
-            match value_heads::checked_number(s, w, at + 1, head) {
-                NumberAnswer::Refused(r) => DecodedAnswer::Refused(r),
-                NumberAnswer::Got { value, next } => DecodedAnswer::Got {
-                    value: plain_of(head, value),
-                    next,
-                },
-            }
-        }
-    }
+            let Read { value, next } = value_heads::checked_number(s, w, at + 1, head)?;
+Ok(Read { value: plain_of(head, value), next })
 }

@@ -1,16 +1,15 @@
 -- What the answers of the code say.
-use Rattle.std.proofs.Math.Option.{Option, none, some}
-use Rattle.refusal.specs.Outcome.{Outcome, answer, refused}
+use Rattle.std.proofs.Math.Option.{Option}
+use Rattle.refusal.specs.Outcome.{Outcome}
 use Rattle.annotation_directories.specs.declared.DirectoryHead.{DirectoryHead}
 use Rattle.directory_readers.specs.declared.Reached.{Reached}
-use Rattle.directory_readers.specs.declared.ReachedAnswer as R
-use Rattle.directory_readers.specs.declared.DirectoryAnswer as D
+use Rattle.std.specs.Prelude as S
+use Rattle.std.specs.Prelude.{Result}
+use Rattle.refusal.specs.Answers.{maybe, outcome}
+use Rattle.refusal.specs.declared.Refusal.{Refusal}
 
-abbrev pub reached_outcome : R.ReachedAnswer → Outcome Reached
-reached_outcome (R.TheVariants.Got p) = answer p
-reached_outcome (R.TheVariants.Refused r) = refused r
+abbrev pub reached_outcome : Result Reached Refusal → Outcome Reached
+reached_outcome = outcome (λ (p : Reached). p)
 
-abbrev pub directory_outcome : D.DirectoryAnswer → Outcome (Option DirectoryHead)
-directory_outcome (D.TheVariants.Got h) = answer (some h)
-directory_outcome D.TheVariants.Absent = answer none
-directory_outcome (D.TheVariants.Refused r) = refused r
+abbrev pub directory_outcome : Result (S.Option DirectoryHead) Refusal → Outcome (Option DirectoryHead)
+directory_outcome = outcome (maybe (λ (h : DirectoryHead). h))

@@ -7,9 +7,8 @@ ghost use Rattle.annotation_directories.specs.Answers.{directory_entry_outcome};
 ghost use Rattle.directory_readers.specs.Directories.{directory_in, directory_of, head_in, directory, entry_in, entry_number};
 ghost use Rattle.directory_readers.specs.Answers.{reached_outcome, directory_outcome};
 
-use annotation_directories::{DirectoryEntryAnswer, DirectoryHead, DirectoryHeadAnswer};
-use class_ids::ClassAnswer;
-use header::{Header, HeaderAnswer};
+use annotation_directories::{DirectoryEntry, DirectoryHead};
+use header::Header;
 use refusal::Refusal;
 
 // A place in a file whose header was read, 0 where nothing is there.
@@ -19,74 +18,50 @@ pub struct Reached {
     pub place: u32,
 }
 
-#[derive(Clone, Copy)]
-pub enum ReachedAnswer {
-    Got(Reached),
-    Refused(Refusal),
-}
-
-// Where the class's set is (0 for none), and how many fields, methods and parameter entries there are.
-#[derive(Clone, Copy)]
-pub enum DirectoryAnswer {
-    Got(DirectoryHead),
-    Absent,
-    Refused(Refusal),
-}
-
-fn directory_in(f: &[u8], header: Header, c: u32) -> ReachedAnswer
+fn directory_in(f: &[u8], header: Header, c: u32) -> Result<Reached, Refusal>
     ensures { reached_outcome result ≡ directory_in f.now c header }
 {
-    match table_readers::class_in(f, header, c) {
-        ClassAnswer::Refused(r) => ReachedAnswer::Refused(r),
-        ClassAnswer::Got(found) => ReachedAnswer::Got(Reached {
+    let found = table_readers::class_in(f, header, c)?;
+Ok(Reached {
             header: header,
             place: found.directory,
-        }),
-    }
+        })
 }
 
 // Where the directory of class c is, 0 where it has none.
-pub fn directory_of(f: &[u8], c: u32) -> ReachedAnswer
+pub fn directory_of(f: &[u8], c: u32) -> Result<Reached, Refusal>
     ensures { reached_outcome result ≡ directory_of f.now c }
 {
-    match header::header_of(f) {
-        HeaderAnswer::Refused(r) => ReachedAnswer::Refused(r),
-        HeaderAnswer::Got(header) => directory_in(f, header, c),
-    }
+    let header = header::header_of(f)?;
+directory_in(f, header, c)
 }
 
 // The directory at a place, none at 0.
-pub fn head_in(f: &[u8], header: Header, at: u32) -> DirectoryAnswer
+pub fn head_in(f: &[u8], header: Header, at: u32) -> Result<Option<DirectoryHead>, Refusal>
     ensures { directory_outcome result ≡ head_in f.now header at }
 {
     if 0 < at {
-        return match annotation_directories::directory(
+        let head = annotation_directories::directory(
             header::up_to_end(f, header),
             header::plain_frame(header),
             at as usize,
-        ) {
-            DirectoryHeadAnswer::Refused(r) => DirectoryAnswer::Refused(r),
-            DirectoryHeadAnswer::Got(head) => DirectoryAnswer::Got(head),
-        };
+        )?;
+return Ok(Some(head));
     }
-    DirectoryAnswer::Absent
+    Ok(None)
 }
 
 // The directory of class c.
-pub fn directory(f: &[u8], c: u32) -> DirectoryAnswer
+pub fn directory(f: &[u8], c: u32) -> Result<Option<DirectoryHead>, Refusal>
     ensures { directory_outcome result ≡ directory f.now c }
 {
-    match directory_of(f, c) {
-        ReachedAnswer::Refused(r) => DirectoryAnswer::Refused(r),
-        ReachedAnswer::Got(d) => {
-            let header = d.header;
+    let d = directory_of(f, c)?;
+let header = d.header;
             head_in(f, header, d.place)
-        }
-    }
 }
 
 // Entry k of a list of the directory at a place: at 0 there are none.
-pub fn entry_in(f: &[u8], header: Header, at: u32, list: u32, k: u32) -> DirectoryEntryAnswer
+pub fn entry_in(f: &[u8], header: Header, at: u32, list: u32, k: u32) -> Result<DirectoryEntry, Refusal>
     ensures { directory_entry_outcome result ≡ entry_in f.now header at list k }
 {
     if 0 < at {
@@ -98,37 +73,33 @@ pub fn entry_in(f: &[u8], header: Header, at: u32, list: u32, k: u32) -> Directo
             k,
         );
     }
-    DirectoryEntryAnswer::Refused(refusal::not_there())
+    Err(refusal::not_there())
 }
 
-fn entry_of(f: &[u8], c: u32, list: u32, k: u32) -> DirectoryEntryAnswer
+fn entry_of(f: &[u8], c: u32, list: u32, k: u32) -> Result<DirectoryEntry, Refusal>
     ensures { directory_entry_outcome result ≡ entry_number f.now c list k }
 {
-    match directory_of(f, c) {
-        ReachedAnswer::Refused(r) => DirectoryEntryAnswer::Refused(r),
-        ReachedAnswer::Got(d) => {
-            let header = d.header;
+    let d = directory_of(f, c)?;
+let header = d.header;
             entry_in(f, header, d.place, list, k)
-        }
-    }
 }
 
 // Field entry k of class c: the field, and where its set is.
-pub fn field_entry(f: &[u8], c: u32, k: u32) -> DirectoryEntryAnswer
+pub fn field_entry(f: &[u8], c: u32, k: u32) -> Result<DirectoryEntry, Refusal>
     ensures { directory_entry_outcome result ≡ entry_number f.now c 0 k }
 {
     entry_of(f, c, 0, k)
 }
 
 // Method entry k of class c: the method, and where its set is.
-pub fn method_entry(f: &[u8], c: u32, k: u32) -> DirectoryEntryAnswer
+pub fn method_entry(f: &[u8], c: u32, k: u32) -> Result<DirectoryEntry, Refusal>
     ensures { directory_entry_outcome result ≡ entry_number f.now c 1 k }
 {
     entry_of(f, c, 1, k)
 }
 
 // Parameter entry k of class c: the method, and where its reference list is.
-pub fn parameter_entry(f: &[u8], c: u32, k: u32) -> DirectoryEntryAnswer
+pub fn parameter_entry(f: &[u8], c: u32, k: u32) -> Result<DirectoryEntry, Refusal>
     ensures { directory_entry_outcome result ≡ entry_number f.now c 2 k }
 {
     entry_of(f, c, 2, k)

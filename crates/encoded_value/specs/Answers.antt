@@ -1,8 +1,8 @@
 -- What the answers of the code say.
-use Rattle.std.specs.Prelude.{ℕ}
-use Rattle.refusal.specs.Outcome.{Outcome, answer, refused}
-use Rattle.encoded_value.specs.declared.StepAnswer as S
+use Rattle.std.specs.Prelude.{ℕ, Result}
+use Rattle.refusal.specs.Outcome.{Outcome}
+use Rattle.refusal.specs.Answers.{outcome}
+use Rattle.refusal.specs.declared.Refusal.{Refusal}
 
-abbrev pub step_outcome : S.StepAnswer → Outcome ℕ
-step_outcome (S.TheVariants.Next p) = answer p
-step_outcome (S.TheVariants.Refused r) = refused r
+abbrev pub step_outcome : Result ℕ Refusal → Outcome ℕ
+step_outcome = outcome (λ (p : ℕ). p)

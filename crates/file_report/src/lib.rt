@@ -5,14 +5,15 @@ ghost use Rattle.std.specs.Prelude.{◌≡◌};
 ghost use Rattle.verdict.specs.Answers.{verdict_outcome};
 ghost use Rattle.file_report.specs.Input.{input_at};
 
-use verdict::Verdict;
+use refusal::Refusal;
+
 
 // What a program's input comes to, which has at most 65,536 bytes.
-pub fn input_verdict(f: &[u8]) -> Verdict
+pub fn input_verdict(f: &[u8]) -> Result<Header, Refusal>
     ensures { verdict_outcome result ≡ input_at f.now }
 {
     if 65536 < f.len() {
-        return Verdict::Refused(refusal::input_too_long());
+        return Err(refusal::input_too_long());
     }
     whole_check::verdict(f)
 }

@@ -2,13 +2,12 @@
 // `s` ends where the data section ends, `item` is the place of the code item, `base` that of the list.
 #![tactic(auto)]
 
-ghost use Rattle.std.specs.Prelude.{◌≡◌, cond, ◌-◌};
+ghost use Rattle.std.specs.Prelude.{◌≡◌, ◌-◌};
 ghost use Rattle.leb128.specs.Answers.{leb_outcome};
 ghost use Rattle.handlers.specs.Handlers.{catches, address_at, pair_at, kept_pairs, all_at, rest_at, kept_handler, kept_list, kept_handlers_at};
 ghost use Rattle.handlers.specs.Answers.{pair_outcome, all_outcome, brief_outcome, list_outcome};
 
-use leb128::{LebAnswer, SignedLebAnswer};
-use refusal::Refusal;
+use refusal::{Read, Refusal};
 
 // The number of a type, and the address of the code that handles it.
 #[derive(Clone, Copy)]
@@ -32,39 +31,16 @@ pub struct Brief {
     pub offset: usize,
     pub pairs: u32,
     pub pair: Pair,
-    pub caught: bool,
-    pub all: u32,
-}
-
-#[derive(Clone, Copy)]
-pub enum PairFoundAnswer {
-    Got { pair: Pair, next: usize },
-    Refused(Refusal),
-}
-
-// Whether there is a catch-all, and its address.
-#[derive(Clone, Copy)]
-pub enum CatchAllAnswer {
-    Got { caught: bool, all: u32, next: usize },
-    Refused(Refusal),
-}
-
-#[derive(Clone, Copy)]
-pub enum BriefAnswer {
-    Got { brief: Brief, next: usize },
-    Refused(Refusal),
+    pub all: Option<u32>,
 }
 
 // How many handlers, one of them, where the first begins, and the place after the list.
 #[derive(Clone, Copy)]
-pub enum HandlersAnswer {
-    Got {
-        count: u32,
-        brief: Brief,
-        first: usize,
-        end: usize,
-    },
-    Refused(Refusal),
+pub struct HandlerList {
+    pub count: u32,
+    pub brief: Brief,
+    pub first: usize,
+    pub end: usize,
 }
 
 // Has a handler of this size a catch-all.
@@ -78,58 +54,44 @@ fn is_catching(size: i32) -> bool
 }
 
 // An address: below the unit count.
-fn address_at(s: &[u8], j: HandlerJudge, at: usize) -> LebAnswer
+fn address_at(s: &[u8], j: HandlerJudge, at: usize) -> Result<Read<u32>, Refusal>
     ensures { leb_outcome result ≡ address_at s.now j at }
 {
     let item = j.item;
-    match leb128::uleb(s, at, item) {
-        LebAnswer::Refused(r) => LebAnswer::Refused(r),
-        LebAnswer::Got { value, next } => {
-            if value < j.units {
-                return LebAnswer::Got { value, next };
-            }
-            LebAnswer::Refused(refusal::wrong_code(item))
-        }
+    let Read { value, next } = leb128::uleb(s, at, item)?;
+    if value < j.units {
+        return Ok(Read { value, next });
     }
+    Err(refusal::wrong_code(item))
 }
 
 // A pair: a type, and then an address.
-fn pair_found(s: &[u8], j: HandlerJudge, at: usize) -> PairFoundAnswer
+fn pair_found(s: &[u8], j: HandlerJudge, at: usize) -> Result<Read<Pair>, Refusal>
     ensures { pair_outcome result ≡ pair_at s.now j at }
 {
     let item = j.item;
-    match leb128::uleb(s, at, item) {
-        LebAnswer::Refused(r) => PairFoundAnswer::Refused(r),
-        LebAnswer::Got { value: kind, next } => {
-            if kind < j.types {
-                return match address_at(s, j, next) {
-                    LebAnswer::Refused(r) => PairFoundAnswer::Refused(r),
-                    LebAnswer::Got {
-                        value: address,
-                        next: after,
-                    } => PairFoundAnswer::Got {
-                        pair: Pair { kind, address },
-                        next: after,
-                    },
-                };
-            }
-            PairFoundAnswer::Refused(refusal::wrong_index(item))
-        }
+    let Read { value: kind, next } = leb128::uleb(s, at, item)?;
+    if kind < j.types {
+        let Read {
+            value: address,
+            next: after,
+        } = address_at(s, j, next)?;
+        return Ok(Read {
+            value: Pair { kind, address },
+            next: after,
+        });
     }
-}
-
-// The new pair where it is the one asked for, or else the one that was kept.
-fn newer_pair(asked: bool, new: Pair, old: Pair) -> Pair
-    ensures { result ≡ cond asked new old }
-{
-    if asked {
-        return new;
-    }
-    old
+    Err(refusal::wrong_index(item))
 }
 
 // All pairs of a handler, of which number k is kept.
-fn pairs_at(s: &[u8], j: HandlerJudge, from: usize, count: u32, k: u32) -> PairFoundAnswer
+fn pairs_at(
+    s: &[u8],
+    j: HandlerJudge,
+    from: usize,
+    count: u32,
+    k: u32,
+) -> Result<Read<Pair>, Refusal>
     ensures { pair_outcome result ≡ kept_pairs s.now j from count k }
 {
     let mut p = from;
@@ -137,46 +99,32 @@ fn pairs_at(s: &[u8], j: HandlerJudge, from: usize, count: u32, k: u32) -> PairF
         kind: 0,
         address: 0,
     };
-    let mut i: u32 = 0;
-    let mut left = count;
-    while 0 < left {
-        match pair_found(s, j, p) {
-            PairFoundAnswer::Refused(r) => {
-                return PairFoundAnswer::Refused(r);
-            }
-            PairFoundAnswer::Got { pair, next } => {
-                kept = newer_pair(i == k, pair, kept);
-                p = next;
-            }
-        }
-        i += 1;
-        left -= 1;
+    for i in 0..count {
+        let Read { value: pair, next } = pair_found(s, j, p)?;
+        kept = refusal::newer(i == k, pair, kept);
+        p = next;
     }
-    PairFoundAnswer::Got {
-        pair: kept,
+    Ok(Read {
+        value: kept,
         next: p,
-    }
+    })
 }
 
 // The catch-all of a handler of this size.
-fn all_at(s: &[u8], j: HandlerJudge, size: i32, at: usize) -> CatchAllAnswer
+fn all_at(s: &[u8], j: HandlerJudge, size: i32, at: usize) -> Result<Read<Option<u32>>, Refusal>
     ensures { all_outcome result ≡ all_at s.now j size at }
 {
     if is_catching(size) {
-        return match address_at(s, j, at) {
-            LebAnswer::Refused(r) => CatchAllAnswer::Refused(r),
-            LebAnswer::Got { value, next } => CatchAllAnswer::Got {
-                caught: true,
-                all: value,
-                next,
-            },
-        };
+        let Read { value, next } = address_at(s, j, at)?;
+        return Ok(Read {
+            value: Some(value),
+            next,
+        });
     }
-    CatchAllAnswer::Got {
-        caught: false,
-        all: 0,
+    Ok(Read {
+        value: None,
         next: at,
-    }
+    })
 }
 
 // How far a place is from another, 0 where it is before.
@@ -198,57 +146,44 @@ fn rest_at(
     size: i32,
     from: usize,
     k: u32,
-) -> BriefAnswer
+) -> Result<Read<Brief>, Refusal>
     ensures { brief_outcome result ≡ rest_at s.now j offset pairs size from k }
 {
-    match pairs_at(s, j, from, pairs, k) {
-        PairFoundAnswer::Refused(r) => BriefAnswer::Refused(r),
-        PairFoundAnswer::Got { pair, next } => match all_at(s, j, size, next) {
-            CatchAllAnswer::Refused(r) => BriefAnswer::Refused(r),
-            CatchAllAnswer::Got {
-                caught,
-                all,
-                next: end,
-            } => BriefAnswer::Got {
-                brief: Brief {
-                    offset,
-                    pairs,
-                    pair,
-                    caught,
-                    all,
-                },
-                next: end,
-            },
+    let Read { value: pair, next } = pairs_at(s, j, from, pairs, k)?;
+    let Read {
+        value: all,
+        next: end,
+    } = all_at(s, j, size, next)?;
+    Ok(Read {
+        value: Brief {
+            offset,
+            pairs,
+            pair,
+            all,
         },
-    }
+        next: end,
+    })
 }
 
 // A handler, of which pair k is kept.
-pub fn handler_found(s: &[u8], j: HandlerJudge, at: usize, k: u32) -> BriefAnswer
+pub fn handler_found(s: &[u8], j: HandlerJudge, at: usize, k: u32) -> Result<Read<Brief>, Refusal>
     ensures { brief_outcome result ≡ kept_handler s.now j k at }
 {
     let offset = offset_of(at, j.base);
-    match leb128::sleb(s, at, j.item) {
-        SignedLebAnswer::Refused(r) => BriefAnswer::Refused(r),
-        SignedLebAnswer::Got { value: size, next } => {
-            let pairs = sign::magnitude_of(size);
-            rest_at(s, j, offset, pairs, size, next, k)
-        }
-    }
-}
-
-// The new handler where it is the one asked for, or else the one that was kept.
-fn newer(asked: bool, new: Brief, old: Brief) -> Brief
-    ensures { result ≡ cond asked new old }
-{
-    if asked {
-        return new;
-    }
-    old
+    let Read { value: size, next } = leb128::sleb(s, at, j.item)?;
+    let pairs = sign::magnitude_of(size);
+    rest_at(s, j, offset, pairs, size, next, k)
 }
 
 // All handlers from a place on, of which pair k of handler h is kept.
-fn list_found(s: &[u8], j: HandlerJudge, from: usize, count: u32, h: u32, k: u32) -> BriefAnswer
+fn list_found(
+    s: &[u8],
+    j: HandlerJudge,
+    from: usize,
+    count: u32,
+    h: u32,
+    k: u32,
+) -> Result<Read<Brief>, Refusal>
     ensures { brief_outcome result ≡ kept_list s.now j from count h k }
 {
     let mut p = from;
@@ -259,53 +194,39 @@ fn list_found(s: &[u8], j: HandlerJudge, from: usize, count: u32, h: u32, k: u32
             kind: 0,
             address: 0,
         },
-        caught: false,
-        all: 0,
+        all: None,
     };
-    let mut i: u32 = 0;
-    let mut left = count;
-    while 0 < left {
-        match handler_found(s, j, p, k) {
-            BriefAnswer::Refused(r) => {
-                return BriefAnswer::Refused(r);
-            }
-            BriefAnswer::Got { brief, next } => {
-                kept = newer(i == h, brief, kept);
-                p = next;
-            }
-        }
-        i += 1;
-        left -= 1;
+    for i in 0..count {
+        let Read { value: brief, next } = handler_found(s, j, p, k)?;
+        kept = refusal::newer(i == h, brief, kept);
+        p = next;
     }
-    BriefAnswer::Got {
-        brief: kept,
+    Ok(Read {
+        value: kept,
         next: p,
-    }
+    })
 }
 
 // The handler list, of which pair k of handler h is kept.
-pub fn handlers_at(s: &[u8], j: HandlerJudge, h: u32, k: u32) -> HandlersAnswer
+pub fn handlers_at(s: &[u8], j: HandlerJudge, h: u32, k: u32) -> Result<HandlerList, Refusal>
     ensures { list_outcome result ≡ kept_handlers_at s.now j h k }
 {
     let item = j.item;
-    match leb128::uleb(s, j.base, item) {
-        LebAnswer::Refused(r) => HandlersAnswer::Refused(r),
-        LebAnswer::Got {
-            value: count,
-            next: first,
-        } => {
-            if 0 < count {
-                return match list_found(s, j, first, count, h, k) {
-                    BriefAnswer::Refused(r) => HandlersAnswer::Refused(r),
-                    BriefAnswer::Got { brief, next: end } => HandlersAnswer::Got {
-                        count,
-                        brief,
-                        first,
-                        end,
-                    },
-                };
-            }
-            HandlersAnswer::Refused(refusal::wrong_code(item))
-        }
+    let Read {
+        value: count,
+        next: first,
+    } = leb128::uleb(s, j.base, item)?;
+    if 0 < count {
+        let Read {
+            value: brief,
+            next: end,
+        } = list_found(s, j, first, count, h, k)?;
+        return Ok(HandlerList {
+            count,
+            brief,
+            first,
+            end,
+        });
     }
+    Err(refusal::wrong_code(item))
 }

@@ -32,12 +32,6 @@ pub struct Header {
     pub end: usize,
 }
 
-#[derive(Clone, Copy)]
-pub enum HeaderAnswer {
-    Got(Header),
-    Refused(Refusal),
-}
-
 // What a table's records are: how many bytes each, and how many there may be.
 #[derive(Clone, Copy)]
 pub struct Shape {
@@ -58,30 +52,6 @@ pub struct Three {
 pub struct Section {
     pub start: usize,
     pub end: usize,
-}
-
-#[derive(Clone, Copy)]
-pub enum OrderAnswer {
-    Got(Endian),
-    Refused(Refusal),
-}
-
-#[derive(Clone, Copy)]
-pub enum TableAnswer {
-    Got(Table),
-    Refused(Refusal),
-}
-
-#[derive(Clone, Copy)]
-pub enum ThreeAnswer {
-    Got(Three),
-    Refused(Refusal),
-}
-
-#[derive(Clone, Copy)]
-pub enum SectionAnswer {
-    Got(Section),
-    Refused(Refusal),
 }
 
 // Types and protos are named by 16 bits.
@@ -171,16 +141,16 @@ fn version_at(f: &[u8]) -> u32
 }
 
 // The byte order that the endian tag tells.
-fn order_at(f: &[u8]) -> OrderAnswer
+fn order_at(f: &[u8]) -> Result<Endian, Refusal>
     ensures { order_outcome result ≡ order_at f.now }
 {
     if is_four(f, 40, 0x78, 0x56, 0x34, 0x12) {
-        return OrderAnswer::Got(Endian::Little);
+        return Ok(Endian::Little);
     }
     if is_four(f, 40, 0x12, 0x34, 0x56, 0x78) {
-        return OrderAnswer::Got(Endian::Big);
+        return Ok(Endian::Big);
     }
-    OrderAnswer::Refused(refusal::wrong_tag())
+    Err(refusal::wrong_tag())
 }
 
 // May a table of a file of `length` bytes have so many records there.
@@ -205,51 +175,45 @@ fn is_table_allowed(length: usize, shape: Shape, count: u32, offset: u32) -> boo
 }
 
 // The table whose count and offset stand at a place of the header.
-fn table_at(f: &[u8], order: Endian, shape: Shape, at: u32) -> TableAnswer
+fn table_at(f: &[u8], order: Endian, shape: Shape, at: u32) -> Result<Table, Refusal>
     ensures { table_outcome result ≡ table_at f.now order shape at }
 {
     let p = at as usize;
     let count = word::u32_at(f, p, order);
     let offset = word::u32_at(f, p + 4, order);
     if is_table_allowed(f.len(), shape, count, offset) {
-        return TableAnswer::Got(Table { count, offset });
+        return Ok(Table { count, offset });
     }
-    TableAnswer::Refused(refusal::out_of_bounds())
+    Err(refusal::out_of_bounds())
 }
 
 // Three tables whose counts and offsets stand in a row.
-fn three_at(f: &[u8], order: Endian, a: Shape, b: Shape, c: Shape, at: u16) -> ThreeAnswer
+fn three_at(f: &[u8], order: Endian, a: Shape, b: Shape, c: Shape, at: u16) -> Result<Three, Refusal>
     ensures { three_outcome result ≡ three_at f.now order a b c at }
 {
-    match table_at(f, order, a, at as u32) {
-        TableAnswer::Refused(r) => ThreeAnswer::Refused(r),
-        TableAnswer::Got(first) => match table_at(f, order, b, at as u32 + 8) {
-            TableAnswer::Refused(r) => ThreeAnswer::Refused(r),
-            TableAnswer::Got(second) => match table_at(f, order, c, at as u32 + 16) {
-                TableAnswer::Refused(r) => ThreeAnswer::Refused(r),
-                TableAnswer::Got(third) => ThreeAnswer::Got(Three {
+    let first = table_at(f, order, a, at as u32)?;
+let second = table_at(f, order, b, at as u32 + 8)?;
+let third = table_at(f, order, c, at as u32 + 16)?;
+Ok(Three {
                     first,
                     second,
                     third,
-                }),
-            },
-        },
-    }
+                })
 }
 
 // The data section.
-fn section_at(f: &[u8], order: Endian) -> SectionAnswer
+fn section_at(f: &[u8], order: Endian) -> Result<Section, Refusal>
     ensures { section_outcome result ≡ section_at f.now order }
 {
     let size = word::u32_at(f, 104, order) as usize;
     let start = word::u32_at(f, 108, order) as usize;
     if start < 112 {
-        return SectionAnswer::Refused(refusal::out_of_bounds());
+        return Err(refusal::out_of_bounds());
     }
     if f.len() < start + size {
-        return SectionAnswer::Refused(refusal::out_of_bounds());
+        return Err(refusal::out_of_bounds());
     }
-    SectionAnswer::Got(Section {
+    Ok(Section {
         start,
         end: start + size,
     })
@@ -282,71 +246,63 @@ fn join(f: &[u8], version: u32, order: Endian, t: Three, u: Three, d: Section) -
 }
 
 // Rules 5 and 6, and what the header says in this order.
-fn body_at(f: &[u8], version: u32, order: Endian) -> HeaderAnswer
+fn body_at(f: &[u8], version: u32, order: Endian) -> Result<Header, Refusal>
     ensures { header_outcome result ≡ body_at f.now version order }
 {
     let size = word::u32_at(f, 36, order);
     let file = word::u32_at(f, 32, order) as usize;
     if size != 112 {
-        return HeaderAnswer::Refused(refusal::wrong_sizes());
+        return Err(refusal::wrong_sizes());
     }
     if file != f.len() {
-        return HeaderAnswer::Refused(refusal::wrong_sizes());
+        return Err(refusal::wrong_sizes());
     }
     tables_at(f, version, order)
 }
 
 // The data section behind six tables.
-fn sectioned(f: &[u8], version: u32, order: Endian, t: Three, u: Three) -> HeaderAnswer
+fn sectioned(f: &[u8], version: u32, order: Endian, t: Three, u: Three) -> Result<Header, Refusal>
     ensures { header_outcome result ≡ sectioned_at f.now version order t u }
 {
-    match section_at(f, order) {
-        SectionAnswer::Refused(r) => HeaderAnswer::Refused(r),
-        SectionAnswer::Got(d) => HeaderAnswer::Got(join(f, version, order, t, u, d)),
-    }
+    let d = section_at(f, order)?;
+Ok(join(f, version, order, t, u, d))
 }
 
 // Rule 6: the six tables and the data section.
-fn tables_at(f: &[u8], version: u32, order: Endian) -> HeaderAnswer
+fn tables_at(f: &[u8], version: u32, order: Endian) -> Result<Header, Refusal>
     ensures { header_outcome result ≡ tables_at f.now version order }
 {
-    match three_at(f, order, STRINGS, TYPES, PROTOS, 56) {
-        ThreeAnswer::Refused(r) => HeaderAnswer::Refused(r),
-        ThreeAnswer::Got(t) => match three_at(f, order, FIELDS, METHODS, CLASSES, 80) {
-            ThreeAnswer::Refused(r) => HeaderAnswer::Refused(r),
-            ThreeAnswer::Got(u) => sectioned(f, version, order, t, u),
-        },
-    }
+    let t = three_at(f, order, STRINGS, TYPES, PROTOS, 56)?;
+let u = three_at(f, order, FIELDS, METHODS, CLASSES, 80)?;
+sectioned(f, version, order, t, u)
 }
 
 // The header, or the first of rules 1 to 6 that is broken.
-pub fn header_of(f: &[u8]) -> HeaderAnswer
+pub fn header_of(f: &[u8]) -> Result<Header, Refusal>
     ensures { header_outcome result ≡ header_at f.now }
 {
     if f.len() < 112 {
-        return HeaderAnswer::Refused(refusal::file_too_short());
+        return Err(refusal::file_too_short());
     }
     if 67108864 < f.len() {
-        return HeaderAnswer::Refused(refusal::file_too_long());
+        return Err(refusal::file_too_long());
     }
     if is_four(f, 0, 0x64, 0x65, 0x78, 0x0a) {
         return versioned(f);
     }
-    HeaderAnswer::Refused(refusal::wrong_magic())
+    Err(refusal::wrong_magic())
 }
 
 // The header behind the magic: its version, and then its order.
-fn versioned(f: &[u8]) -> HeaderAnswer
+fn versioned(f: &[u8]) -> Result<Header, Refusal>
     ensures { header_outcome result ≡ versioned_at f.now }
 {
     let version = version_at(f);
     if 0 < version {
-        return match order_at(f) {
-            OrderAnswer::Refused(r) => HeaderAnswer::Refused(r),
-            OrderAnswer::Got(order) => body_at(f, version, order),
-        };
+        let order = order_at(f)?;
+return body_at(f, version, order);
     }
-    HeaderAnswer::Refused(refusal::wrong_magic())
+    Err(refusal::wrong_magic())
 }
 
 // The file up to the data section's end: what data items are read from.

@@ -8,24 +8,12 @@ ghost use Rattle.ids.specs.Answers.{index_outcome, proto_outcome, member_id_outc
 use frame::Frame;
 use refusal::Refusal;
 
-#[derive(Clone, Copy)]
-pub enum IndexAnswer {
-    Got(u32),
-    Refused(Refusal),
-}
-
 // A proto: its shorty, its return type, and where its parameters are, 0 for none.
 #[derive(Clone, Copy)]
 pub struct Proto {
     pub shorty: u32,
     pub return_type: u32,
     pub parameters: u32,
-}
-
-#[derive(Clone, Copy)]
-pub enum ProtoAnswer {
-    Got(Proto),
-    Refused(Refusal),
 }
 
 // A field or a method: its class, its type or proto, and its name.
@@ -36,12 +24,6 @@ pub struct MemberId {
     pub name: u32,
 }
 
-#[derive(Clone, Copy)]
-pub enum MemberIdAnswer {
-    Got(MemberId),
-    Refused(Refusal),
-}
-
 // A method handle: its kind, and the field (0 to 3) or the method (4 to 8) that it names.
 #[derive(Clone, Copy)]
 pub struct Handle {
@@ -49,27 +31,21 @@ pub struct Handle {
     pub number: u32,
 }
 
-#[derive(Clone, Copy)]
-pub enum HandleAnswer {
-    Got(Handle),
-    Refused(Refusal),
-}
-
 // A type: its string.
-pub fn type_at(f: &[u8], frame: Frame, offset: u32, n: u32) -> IndexAnswer
+pub fn type_at(f: &[u8], frame: Frame, offset: u32, n: u32) -> Result<u32, Refusal>
     ensures { index_outcome result ≡ type_at f.now frame offset n }
 {
     let order = frame.order;
     let place = offset as usize + 4 * n as usize;
     let string = word::u32_at(f, place, order);
     if string < frame.strings {
-        return IndexAnswer::Got(string);
+        return Ok(string);
     }
-    IndexAnswer::Refused(refusal::wrong_index(place))
+    Err(refusal::wrong_index(place))
 }
 
 // A proto's own rules: shorty, return type, parameters.
-pub fn proto_at(f: &[u8], frame: Frame, end: usize, offset: u32, n: u32) -> ProtoAnswer
+pub fn proto_at(f: &[u8], frame: Frame, end: usize, offset: u32, n: u32) -> Result<Proto, Refusal>
     ensures { proto_outcome result ≡ proto_at f.now frame end offset n }
 {
     let order = frame.order;
@@ -78,23 +54,23 @@ pub fn proto_at(f: &[u8], frame: Frame, end: usize, offset: u32, n: u32) -> Prot
     let return_type = word::u32_at(f, place + 4, order);
     let parameters = word::u32_at(f, place + 8, order);
     if frame.strings <= shorty {
-        return ProtoAnswer::Refused(refusal::wrong_index(place));
+        return Err(refusal::wrong_index(place));
     }
     if frame.types <= return_type {
-        return ProtoAnswer::Refused(refusal::wrong_index(place));
+        return Err(refusal::wrong_index(place));
     }
     if frame::is_allowed_or_absent(frame.start, end, true, parameters as usize) {
-        return ProtoAnswer::Got(Proto {
+        return Ok(Proto {
             shorty,
             return_type,
             parameters,
         });
     }
-    ProtoAnswer::Refused(refusal::wrong_offset(place))
+    Err(refusal::wrong_offset(place))
 }
 
 // A field's or a method's own rules: `kinds` is how many types or protos there are.
-pub fn member_at(f: &[u8], frame: Frame, kinds: u32, offset: u32, n: u32) -> MemberIdAnswer
+pub fn member_at(f: &[u8], frame: Frame, kinds: u32, offset: u32, n: u32) -> Result<MemberId, Refusal>
     ensures { member_id_outcome result ≡ member_id_at f.now frame kinds offset n }
 {
     let order = frame.order;
@@ -103,19 +79,19 @@ pub fn member_at(f: &[u8], frame: Frame, kinds: u32, offset: u32, n: u32) -> Mem
     let kind = word::u16_at(f, place + 2, order) as u32;
     let name = word::u32_at(f, place + 4, order);
     if frame.types <= class {
-        return MemberIdAnswer::Refused(refusal::wrong_index(place));
+        return Err(refusal::wrong_index(place));
     }
     if kinds <= kind {
-        return MemberIdAnswer::Refused(refusal::wrong_index(place));
+        return Err(refusal::wrong_index(place));
     }
     if frame.strings <= name {
-        return MemberIdAnswer::Refused(refusal::wrong_index(place));
+        return Err(refusal::wrong_index(place));
     }
-    MemberIdAnswer::Got(MemberId { class, kind, name })
+    Ok(MemberId { class, kind, name })
 }
 
 // A method handle's own rules: its kind, then the field or the method.
-pub fn handle_at(f: &[u8], frame: Frame, offset: u32, n: u32) -> HandleAnswer
+pub fn handle_at(f: &[u8], frame: Frame, offset: u32, n: u32) -> Result<Handle, Refusal>
     ensures { handle_outcome result ≡ handle_at f.now frame offset n }
 {
     let order = frame.order;
@@ -123,16 +99,16 @@ pub fn handle_at(f: &[u8], frame: Frame, offset: u32, n: u32) -> HandleAnswer
     let kind = word::u16_at(f, place, order) as u32;
     let number = word::u16_at(f, place + 4, order) as u32;
     if 8 < kind {
-        return HandleAnswer::Refused(refusal::unknown_kind(place));
+        return Err(refusal::unknown_kind(place));
     }
     if kind <= 3 {
         if number < frame.fields {
-            return HandleAnswer::Got(Handle { kind, number });
+            return Ok(Handle { kind, number });
         }
-        return HandleAnswer::Refused(refusal::wrong_index(place));
+        return Err(refusal::wrong_index(place));
     }
     if number < frame.methods {
-        return HandleAnswer::Got(Handle { kind, number });
+        return Ok(Handle { kind, number });
     }
-    HandleAnswer::Refused(refusal::wrong_index(place))
+    Err(refusal::wrong_index(place))
 }

@@ -1,81 +1,54 @@
 // Kinds 16 to 24: debug information, class data and code items. Their answers have the words of the readers' answers.
-use class_data::{DataAnswer, MemberAnswer};
-use class_readers::{MaybeDataAnswer, MaybeMemberAnswer};
-use code_item::{CodeAnswer, HandlerAnswer, PairAnswer, TryAnswer};
-use code_readers::{MaybeCodeAnswer, MaybeHandlerAnswer, MaybePairAnswer, MaybeTryAnswer};
-use debug_info::{DebugAnswer, NameAnswer};
-use debug_readers::{MaybeDebugAnswer, MaybeNameAnswer};
 use frame::Frame;
+use refusal::{Read, Refusal};
+use debug_info::DebugOutline;
+use code_item::{HandlerOutline, NumberedTry};
 
-fn debug(a: DebugAnswer) -> MaybeDebugAnswer {
-    match a {
-        DebugAnswer::Refused(r) => MaybeDebugAnswer::Refused(r),
-        DebugAnswer::Got {
-            line,
-            names,
-            start,
-            length,
-        } => MaybeDebugAnswer::Got {
-            line,
-            names,
-            start,
-            length,
-        },
-    }
+fn debug(a: Result<DebugOutline, Refusal>) -> Result<Option<DebugOutline>, Refusal> {
+    let DebugOutline { line, names, start, length } = a?;
+Ok(Some(DebugOutline { line, names, start, length }))
 }
 
-fn name(a: NameAnswer) -> MaybeNameAnswer {
-    match a {
-        NameAnswer::Refused(r) => MaybeNameAnswer::Refused(r),
-        NameAnswer::Got(n) => MaybeNameAnswer::Got(n),
-    }
+fn name(a: Result<Option<u32>, Refusal>) -> Result<Option<Option<u32>>, Refusal> {
+    let n = a?;
+Ok(Some(n))
 }
 
-fn member(a: MemberAnswer) -> MaybeMemberAnswer {
-    match a {
-        MemberAnswer::Refused(r) => MaybeMemberAnswer::Refused(r),
-        MemberAnswer::Got(m) => MaybeMemberAnswer::Got(m),
-    }
+fn member(a: Result<Member, Refusal>) -> Result<Option<Member>, Refusal> {
+    let m = a?;
+Ok(Some(m))
 }
 
 // The counts, and where the class data ends.
-fn data_row(a: DataAnswer) -> [u64; 20] {
+fn data_row(a: Result<Read<Counts>, Refusal>) -> [u64; 20] {
     match a {
-        DataAnswer::Refused(r) => answer_rows::data_row(MaybeDataAnswer::Refused(r)),
-        DataAnswer::Got { counts, end } => {
-            let mut row = answer_rows::data_row(MaybeDataAnswer::Got(counts));
+        Err(r) => answer_rows::data_row(Err(r)),
+        Ok(Read { value: counts, next: end }) => {
+            let mut row = answer_rows::data_row(Ok(Some(counts)));
             row[5] = end as u64;
             row
         }
     }
 }
 
-fn code(a: CodeAnswer) -> MaybeCodeAnswer {
-    match a {
-        CodeAnswer::Refused(r) => MaybeCodeAnswer::Refused(r),
-        CodeAnswer::Got(o) => MaybeCodeAnswer::Got(o),
-    }
+fn code(a: Result<Outline, Refusal>) -> Result<Option<Outline>, Refusal> {
+    let o = a?;
+Ok(Some(o))
 }
 
-fn attempt(a: TryAnswer) -> MaybeTryAnswer {
-    match a {
-        TryAnswer::Refused(r) => MaybeTryAnswer::Refused(r),
-        TryAnswer::Got { attempt, number } => MaybeTryAnswer::Got { attempt, number },
-    }
+fn attempt(a: Result<NumberedTry, Refusal>) -> Result<Option<NumberedTry>, Refusal> {
+    let NumberedTry { attempt, number } = a?;
+Ok(Some(NumberedTry { attempt, number }))
 }
 
-fn handler(a: HandlerAnswer) -> MaybeHandlerAnswer {
-    match a {
-        HandlerAnswer::Refused(r) => MaybeHandlerAnswer::Refused(r),
-        HandlerAnswer::Got { offset, pairs, all } => MaybeHandlerAnswer::Got { offset, pairs, all },
-    }
+fn handler(a: Result<HandlerOutline, Refusal>) -> Result<Option<HandlerOutline>, Refusal> {
+    let HandlerOutline { offset, pairs, all } = a?;
+Ok(Some(HandlerOutline { offset, pairs, all }))
 }
 
-fn pair(a: PairAnswer) -> MaybePairAnswer {
-    match a {
-        PairAnswer::Refused(r) => MaybePairAnswer::Refused(r),
-        PairAnswer::Got(p) => MaybePairAnswer::Got(p),
-    }
+fn pair(a: Result<Pair, Refusal>) -> Result<Option<Pair>, Refusal> {
+    let p = a?;
+Ok(Some(p))
 }
 
 pub(crate) fn row(s: &[u8], kind: u8, frame: Frame, item: usize, b: u32, c: u32) -> [u64; 20] {

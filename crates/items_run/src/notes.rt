@@ -1,22 +1,15 @@
 // Kinds 32 to 43: annotation items, sets, reference lists, directories, and all that lies below them.
-use annotation_directories::DirectoryHeadAnswer;
-use annotation_items::VisibilityAnswer;
-use annotation_lists::WordAnswer;
-use directory_readers::DirectoryAnswer;
 use frame::Frame;
+use refusal::Refusal;
 
-fn visibility(v: VisibilityAnswer) -> WordAnswer {
-    match v {
-        VisibilityAnswer::Refused(r) => WordAnswer::Refused(r),
-        VisibilityAnswer::Got(n) => WordAnswer::Got(n as u32),
-    }
+fn visibility(v: Result<u8, Refusal>) -> Result<u32, Refusal> {
+    let n = v?;
+Ok(n as u32)
 }
 
-fn directory(h: DirectoryHeadAnswer) -> DirectoryAnswer {
-    match h {
-        DirectoryHeadAnswer::Refused(r) => DirectoryAnswer::Refused(r),
-        DirectoryHeadAnswer::Got(d) => DirectoryAnswer::Got(d),
-    }
+fn directory(h: Result<DirectoryHead, Refusal>) -> Result<Option<DirectoryHead>, Refusal> {
+    let d = h?;
+Ok(Some(d))
 }
 
 pub(crate) fn row(s: &[u8], kind: u8, frame: Frame, item: usize, k: u32) -> [u64; 20] {

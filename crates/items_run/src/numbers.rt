@@ -1,11 +1,8 @@
 // Kinds 0 to 4: LEB128 numbers and texts.
-use class_readers::MaybeCountAnswer;
-use code_units::UnitsAnswer;
 use decoded_value::Value;
-use leb128::{LebAnswer, PlusOneAnswer, SignedLebAnswer};
-use refusal::Refusal;
+use leb128::PlusOneAnswer;
+use refusal::{Read, Refusal};
 use text_order::Order;
-use value_bodies::PickedAnswer;
 
 // An answer of four words, and a refusal.
 pub(crate) fn four(a: u64, b: u64, c: u64, d: u64) -> [u64; 20] {
@@ -13,22 +10,22 @@ pub(crate) fn four(a: u64, b: u64, c: u64, d: u64) -> [u64; 20] {
 }
 
 pub(crate) fn refused(r: Refusal) -> [u64; 20] {
-    answer_rows::size_row(value_bodies::BodySizeAnswer::Refused(r))
+    answer_rows::size_row(Err(r))
 }
 
 fn unsigned(s: &[u8], at: usize, item: usize) -> [u64; 20] {
     match leb128::uleb(s, at, item) {
-        LebAnswer::Refused(r) => refused(r),
-        LebAnswer::Got { value, next } => four(value as u64, next as u64, 0, 0),
+        Err(r) => refused(r),
+        Ok(Read { value, next }) => four(value as u64, next as u64, 0, 0),
     }
 }
 
 // As an int value, with its magnitude and the place after it.
 fn signed(s: &[u8], at: usize, item: usize) -> [u64; 20] {
     match leb128::sleb(s, at, item) {
-        SignedLebAnswer::Refused(r) => refused(r),
-        SignedLebAnswer::Got { value, next } => {
-            let row = answer_rows::picked_row(PickedAnswer::Got(Value::Int(value)));
+        Err(r) => refused(r),
+        Ok(Read { value, next }) => {
+            let row = answer_rows::picked_row(Ok(Value::Int(value)));
             four(
                 row[1],
                 row[2],
@@ -73,9 +70,9 @@ pub(crate) fn row(s: &[u8], kind: u8, a: usize, b: usize) -> [u64; 20] {
     order(word::bytes_at(s, 0, a), word::bytes_at(s, a, b))
 }
 
-pub(crate) fn written_row(a: UnitsAnswer) -> [u64; 20] {
+pub(crate) fn written_row(a: Result<u32, Refusal>) -> [u64; 20] {
     match a {
-        UnitsAnswer::Refused(r) => answer_rows::written_row(MaybeCountAnswer::Refused(r)),
-        UnitsAnswer::Written(n) => answer_rows::written_row(MaybeCountAnswer::Got(n as usize)),
+        Err(r) => answer_rows::written_row(Err(r)),
+        Ok(n) => answer_rows::written_row(Ok(Some(n as usize))),
     }
 }

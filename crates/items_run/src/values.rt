@@ -1,9 +1,9 @@
 // Kinds 8 to 13: a value inside a body, and bodies by number.
 use super::numbers;
-use decoded_value::{DecodedAnswer, Value};
-use encoded_value::StepAnswer;
-use value_bodies::{AnnotationHeadAnswer, PickedAnswer};
+use decoded_value::Value;
 use value_heads::Walk;
+use refusal::Read;
+use value_bodies::AnnotationHead;
 
 fn single(value: f32) -> u64 {
     if value != value {
@@ -52,9 +52,9 @@ fn float_of(v: Value) -> u64 {
 // A value's words, then the place after it and what float it is.
 fn decoded(s: &[u8], w: Walk, at: usize, left: u32) -> [u64; 20] {
     match decoded_value::decode_at(s, w, at, left) {
-        DecodedAnswer::Refused(r) => numbers::refused(r),
-        DecodedAnswer::Got { value, next } => {
-            let mut row = answer_rows::picked_row(PickedAnswer::Got(value));
+        Err(r) => numbers::refused(r),
+        Ok(Read { value, next }) => {
+            let mut row = answer_rows::picked_row(Ok(value));
             row[4] = next as u64;
             row[5] = float_of(value);
             row
@@ -64,15 +64,15 @@ fn decoded(s: &[u8], w: Walk, at: usize, left: u32) -> [u64; 20] {
 
 fn gone_over(s: &[u8], w: Walk, at: usize, left: u32) -> [u64; 20] {
     match encoded_value::value(s, w, at, left) {
-        StepAnswer::Refused(r) => numbers::refused(r),
-        StepAnswer::Next(next) => numbers::four(next as u64, 0, 0, 0),
+        Err(r) => numbers::refused(r),
+        Ok(next) => numbers::four(next as u64, 0, 0, 0),
     }
 }
 
 fn head(s: &[u8], w: Walk, at: usize) -> [u64; 20] {
     match value_bodies::annotation_head(s, w, at) {
-        AnnotationHeadAnswer::Refused(r) => numbers::refused(r),
-        AnnotationHeadAnswer::Got { type_index, count } => numbers::four(
+        Err(r) => numbers::refused(r),
+        Ok(AnnotationHead { type_index, count }) => numbers::four(
             type_index as u64,
             count as u64,
             0,

@@ -20,19 +20,11 @@ use Rattle.refusal.specs.Refusals.{malformed_number, runs_past}
 use Rattle.refusal.specs.declared.Refusal.{Refusal}
 use Rattle.refusal.specs.Outcome.{Outcome, answer, refused, ◌>>=◌, given}
 use Rattle.refusal.specs.Rows.{Found, in_front}
-use Rattle.refusal.proofs.Laws.{said, calls, bind_answer, bind_refused, refused_by, passes, fails}
+use Rattle.refusal.proofs.Laws.{handed_on, calls, bind_answer, bind_refused, refused_by, passes, fails}
 use Rattle.refusal.proofs.Exact.{never, answer_exact, bind_exact, at_most, one_of}
 use Rattle.refusal.proofs.Rows.{after, after_none, after_front}
 use Rattle.leb128.specs.Leb.{bytes_at, weight, scale, fifth, signed, less_one, uleb_at, sleb_at, plus_one_at, Weighing, weighing, weighed_at}
 use Rattle.leb128.specs.Rules.{Bytes}
-use Rattle.leb128.specs.Answers.{weighed_outcome, leb_outcome, signed_outcome, plus_one_outcome}
-use Rattle.leb128.specs.declared.WeighedAnswer.{WeighedAnswer}
-use Rattle.leb128.specs.declared.WeighedAnswer.TheVariants.{Got, Refused}
-use Rattle.leb128.specs.declared.LebAnswer.{LebAnswer}
-use Rattle.leb128.specs.declared.LebAnswer.TheVariants as L
-use Rattle.leb128.specs.declared.SignedLebAnswer.TheVariants as S
-use Rattle.leb128.specs.declared.SignedLebAnswer.{SignedLebAnswer}
-use Rattle.leb128.specs.declared.PlusOneAnswer.{PlusOneAnswer}
 use Rattle.leb128.proofs.Weights.{weight_small, scale_more, weight_more, Fifth, fifth_byte}
 use Rattle.leb128.proofs.Exactly.{number_exact, uleb_exact, sleb_exact, plus_one_exact}
 
@@ -55,15 +47,15 @@ module _ (s : List ℕ) (item p : ℕ) where
       let back : suc left - 1 ≡ left = omega arith in
       rw (lt-ltb p (length s) h, le-ltb (get_or s p 0) 128 q, back)
 
--- The loop of `weigh` at its head: what was read is known by its weight and its scale, p is the next place and `left` says how many bytes may follow.
-pub record Head (s : List ℕ) (item at p value full left : ℕ) : Type 0 where
+-- The loop of `weigh` at its head: what was read is known by its weight and its scale, p is the next place and k says how many bytes were read.
+pub record Head (s : List ℕ) (item at p value full k : ℕ) : Type 0 where
   front : List ℕ
-  same : bytes_at 5 s item at ≡ (bytes_at left s item p >>= after front)
+  same : bytes_at 5 s item at ≡ (bytes_at (5 - k) s item p >>= after front)
   weight_is : weight front ≡ value
   scale_is : scale front ≡ full
-  room : full * 128 ^ left ≡ 2 ^ 35
+  room : full * 128 ^ (5 - k) ≡ 2 ^ 35
 
-pub head_first : (s : List ℕ) (item at : ℕ) → Head s item at at 0 1 5
+pub head_first : (s : List ℕ) (item at : ℕ) → Head s item at at 0 1 0
 unfolding weight scale
 head_first s item at = record { front = []; same = after_none _; weight_is = refl; scale_is = refl; room = refl }
 
@@ -79,14 +71,20 @@ record Turn (v m low : ℕ) : Type 0 where
   next : v + m * low < m * 128
   fits : m * 128 ≤ 2 ^ 35
 
-module _ {s : List ℕ} {item at p v m left : ℕ} (h : Head s item at p v m left) (l : 0 < left) where
+module _ {s : List ℕ} {item at p v m k : ℕ} (h : Head s item at p v m k) (l : k < 5) where
+  one_left : 0 < 5 - k
+  one_left = omega arith
+
+  fewer : 5 - k - 1 ≡ 5 - (k + 1)
+  fewer = omega arith
+
   turn : (low : ℕ) → low < 128 → Turn v m low
   turn low q =
       let part : m * low ≤ m * 127 = mul-le-mul_left m (omega arith) in
       let small = weight_small h.front in
       let a = h.weight_is in
       let b = h.scale_is in
-      record { part = part; next = omega arith; fits = omega (arith, room_again left m l h.room, mul-le-mul_left (m * 128) (one-le-pow (left - 1) 128 (lit≤ tt))) }
+      record { part = part; next = omega arith; fits = omega (arith, room_again (5 - k) m one_left h.room, mul-le-mul_left (m * 128) (one-le-pow (5 - k - 1) 128 (lit≤ tt))) }
 
   pub fits_part : Fits w64 (m * (get_or s p 0 % 128))
   fits_part = omega (arith, turn (get_or s p 0 % 128) (omega arith))
@@ -99,7 +97,7 @@ module _ {s : List ℕ} {item at p v m left : ℕ} (h : Head s item at p v m lef
 
   pub head_end : {r : Refusal} → length s ≤ p → r ≡ runs_past item → refused r ≡ weighed_at s item at
   unfolding weighed_at
-  head_end q made = refused_by made ∙ sym (bind_refused weighing (h.same ∙ bind_refused _ (bytes_end s item p left l q)))
+  head_end q made = refused_by made ∙ sym (bind_refused weighing (h.same ∙ bind_refused _ (bytes_end s item p (5 - k) one_left q)))
 
   grown : weight (h.front ++ get_or s p 0 ∷ []) ≡ v + m * (get_or s p 0 % 128)
   grown = weight_more h.front (get_or s p 0) ∙ (λ i. h.weight_is i + h.scale_is i * (get_or s p 0 % 128))
@@ -111,22 +109,22 @@ module _ {s : List ℕ} {item at p v m left : ℕ} (h : Head s item at p v m lef
       → answer (record { value = v + m * (get_or s p 0 % 128); full = m * 128; next = p + 1 }) ≡ weighed_at s item at
   unfolding weighed_at after
   head_last q b =
-      sym (bind_answer weighing (h.same ∙ bind_answer _ (bytes_last s item p left l q b)) ∙ (λ i. answer (record { value = grown i; full = scaled i; next = p + 1 })))
+      sym (bind_answer weighing (h.same ∙ bind_answer _ (bytes_last s item p (5 - k) one_left q b)) ∙ (λ i. answer (record { value = grown i; full = scaled i; next = p + 1 })))
 
-  pub head_more : p < length s → 128 ≤ get_or s p 0 → Head s item at (p + 1) (v + m * (get_or s p 0 % 128)) (m * 128) (left - 1)
+  pub head_more : p < length s → 128 ≤ get_or s p 0 → Head s item at (p + 1) (v + m * (get_or s p 0 % 128)) (m * 128) (k + 1)
   head_more q b = record {
     front = h.front ++ get_or s p 0 ∷ [];
-    same = h.same ∙ ap (λ (o : Outcome (Found (List ℕ) ℕ)). o >>= after h.front) (bytes_more s item p left l q b) ∙ after_front h.front (get_or s p 0) (bytes_at (left - 1) s item (p + 1));
+    same = h.same ∙ ap (λ (o : Outcome (Found (List ℕ) ℕ)). o >>= after h.front) (bytes_more s item p (5 - k) one_left q b ∙ ap (λ (n : ℕ). bytes_at n s item (p + 1) >>= in_front (get_or s p 0)) fewer) ∙ after_front h.front (get_or s p 0) (bytes_at (5 - (k + 1)) s item (p + 1));
     weight_is = grown;
     scale_is = scaled;
-    room = room_again left m l h.room;
+    room = ap (λ (n : ℕ). m * 128 * 128 ^ n) (sym fewer) ∙ room_again (5 - k) m one_left h.room;
   }
 
-pub head_full : {s : List ℕ} {item at p v m left : ℕ} {r : Refusal} → Head s item at p v m left → left ≤ 0 → r ≡ malformed_number item → refused r ≡ weighed_at s item at
+pub head_full : {s : List ℕ} {item at p v m k : ℕ} {r : Refusal} → Head s item at p v m k → 5 ≤ k → r ≡ malformed_number item → refused r ≡ weighed_at s item at
 unfolding weighed_at bytes_at
-head_full {s} {item} {at} {p} {v} {m} {left} h q made =
-    let none : left ≡ 0 = omega arith in
-    refused_by made ∙ sym (bind_refused weighing (h.same ∙ bind_refused _ (ap (λ (k : ℕ). bytes_at k s item p) none)))
+head_full {s} {item} {at} {p} {v} {m} {k} h q made =
+    let none : 5 - k ≡ 0 = omega arith in
+    refused_by made ∙ sym (bind_refused weighing (h.same ∙ bind_refused _ (ap (λ (n : ℕ). bytes_at n s item p) none)))
 
 -- ---- signed numbers
 -- -1 - k at 32 bits
@@ -161,107 +159,106 @@ record Behind (s : List ℕ) (item at v m n : ℕ) : Type 0 where
   fifth_is : Fifth bs
 
 module _ (s : List ℕ) (item at : ℕ) where
-  behind : {x : WeighedAnswer} {v m n : ℕ} → weighed_outcome x ≡ weighed_at s item at → x ≡ Got v m n → Behind s item at v m n
+  behind : {w : Weighing} → answer w ≡ weighed_at s item at → Behind s item at w.value w.full w.next
   unfolding weighed_at
-  behind {v = v} {m = m} {n = n} e t =
-      let rule = bind_exact _ (λ (r : Found (List ℕ) ℕ) (w : Weighing). record { value = weight r.item; full = scale r.item; next = r.next } ≡ w) (number_exact s item at) (λ r. answer_exact _) in
-      let found = rule.sound (record { value = v; full = m; next = n }) (sym (sym (ap weighed_outcome t) ∙ e)) in
+  behind {w} e =
+      let rule = bind_exact _ (λ (r : Found (List ℕ) ℕ) (v : Weighing). record { value = weight r.item; full = scale r.item; next = r.next } ≡ v) (number_exact s item at) (λ r. answer_exact _) in
+      let found = rule.sound w (sym e) in
       let same = found.1.1 in
       record {
         bs = found.0.item;
-        read = (number_exact s item at).complete _ (subst (λ (q : ℕ). Bytes s at found.0.item q) (ap (λ (w : Weighing). w.next) same) found.1.0);
-        weight_is = ap (λ (w : Weighing). w.value) same;
-        scale_is = ap (λ (w : Weighing). w.full) same;
+        read = (number_exact s item at).complete _ (subst (λ (q : ℕ). Bytes s at found.0.item q) (ap (λ (v : Weighing). v.next) same) found.1.0);
+        weight_is = ap (λ (v : Weighing). v.value) same;
+        scale_is = ap (λ (v : Weighing). v.full) same;
         fifth_is = fifth_byte found.0.item found.1.0.groups;
       }
 
-  unread : {x : WeighedAnswer} {r : Refusal} → weighed_outcome x ≡ weighed_at s item at → x ≡ Refused r → bytes_at 5 s item at ≡ refused r
+  unread : {r : Refusal} → refused r ≡ weighed_at s item at → bytes_at 5 s item at ≡ refused r
   unfolding weighed_at ◌>>=◌
-  unread {r = r} e t = go (bytes_at 5 s item at) (sym (ap weighed_outcome t) ∙ e)
+  unread {r} e = go (bytes_at 5 s item at) e
     where
       go : (o : Outcome (Found (List ℕ) ℕ)) → refused r ≡ (o >>= weighing) → o ≡ refused r
       go (answer a) h = absurd (never h)
       go (refused q) h = cc
 
+  pub uleb_refused : {r : Refusal} → refused r ≡ weighed_at s item at → refused r ≡ uleb_at s item at
+  unfolding uleb_at
+  uleb_refused e = sym (bind_refused _ (unread e))
+
+  pub sleb_refused : {r : Refusal} → refused r ≡ weighed_at s item at → refused r ≡ sleb_at s item at
+  unfolding sleb_at
+  sleb_refused e = sym (bind_refused _ (unread e))
+
   -- the unsigned number
-  module _ {x : WeighedAnswer} (e : weighed_outcome x ≡ weighed_at s item at) where
-    pub uleb_refused : {r : Refusal} → x ≡ Refused r → refused r ≡ uleb_at s item at
+  module _ {v m n : ℕ} (e : answer (record { value = v; full = m; next = n }) ≡ weighed_at s item at) where
+    pub uleb_got : v < 2 ^ 32 → answer (record { item = v; next = n }) ≡ uleb_at s item at
     unfolding uleb_at
-    uleb_refused t = sym (bind_refused _ (unread e t))
+    uleb_got h =
+        let b = behind e in
+        let w = b.weight_is in
+        let low = b.fifth_is.low (omega arith) in
+        sym (bind_answer _ b.read ∙ sym (passes (malformed_number item) (le-leb (fifth b.bs) 0x0f low) (λ i. answer (record { item = sym w i; next = n }))))
 
-    pub sleb_refused : {r : Refusal} → x ≡ Refused r → refused r ≡ sleb_at s item at
+    pub uleb_high : {r : Refusal} → 2 ^ 32 ≤ v → r ≡ malformed_number item → refused r ≡ uleb_at s item at
+    unfolding uleb_at
+    uleb_high h made =
+        let b = behind e in
+        let w = b.weight_is in
+        let high = b.fifth_is.high (omega arith) in
+        sym (bind_answer _ b.read ∙ sym (fails _ made (lt-leb (fifth b.bs) 0x0f high)))
+
+    -- the signed number: a test on the fifth byte, and what is answered
+    sleb_in : (fifth (behind e).bs ≤ 0x07) ⊎ (0x78 ≤ fifth (behind e).bs) → answer (record { item = signed (behind e).bs; next = n }) ≡ sleb_at s item at
     unfolding sleb_at
-    sleb_refused t = sym (bind_refused _ (unread e t))
+    sleb_in h = sym (bind_answer _ (behind e).read ∙ sym (passes (malformed_number item) ((one_of (at_most _ _) (at_most _ _)).complete h) refl))
 
-    module _ {v m n : ℕ} (t : x ≡ Got v m n) where
-      pub uleb_got : v < 2 ^ 32 → answer (record { item = v; next = n }) ≡ uleb_at s item at
-      unfolding uleb_at
-      uleb_got h =
-          let b = behind e t in
-          let w = b.weight_is in
-          let low = b.fifth_is.low (omega arith) in
-          sym (bind_answer _ b.read ∙ sym (passes (malformed_number item) (le-leb (fifth b.bs) 0x0f low) (λ i. answer (record { item = sym w i; next = n }))))
+    sleb_out : {r : Refusal} → (0x07 < fifth (behind e).bs) × (fifth (behind e).bs < 0x78) → r ≡ malformed_number item → refused r ≡ sleb_at s item at
+    unfolding sleb_at
+    sleb_out h made =
+        sym (bind_answer _ (behind e).read ∙ sym (fails _ made (λ i. lt-leb (fifth (behind e).bs) 0x07 h.0 i || lt-leb 0x78 (fifth (behind e).bs) h.1 i)))
 
-      pub uleb_high : {r : Refusal} → 2 ^ 32 ≤ v → r ≡ malformed_number item → refused r ≡ uleb_at s item at
-      unfolding uleb_at
-      uleb_high h made =
-          let b = behind e t in
-          let w = b.weight_is in
-          let high = b.fifth_is.high (omega arith) in
-          sym (bind_answer _ b.read ∙ sym (fails _ made (lt-leb (fifth b.bs) 0x0f high)))
+    pub fits_twice : Fits w64 (2 * v)
+    fits_twice = let b = behind e in let w = b.weight_is in let f = b.scale_is in let z = weight_small b.bs in let k = b.fifth_is.most in omega arith
 
-      -- the signed number: a test on the fifth byte, and what is answered
-      sleb_in : (fifth (behind e t).bs ≤ 0x07) ⊎ (0x78 ≤ fifth (behind e t).bs) → answer (record { item = signed (behind e t).bs; next = n }) ≡ sleb_at s item at
-      unfolding sleb_at
-      sleb_in h = sym (bind_answer _ (behind e t).read ∙ sym (passes (malformed_number item) ((one_of (at_most _ _) (at_most _ _)).complete h) refl))
+    pub below_scale : v ≤ m
+    below_scale = let b = behind e in let w = b.weight_is in let f = b.scale_is in let z = weight_small b.bs in omega arith
 
-      sleb_out : {r : Refusal} → (0x07 < fifth (behind e t).bs) × (fifth (behind e t).bs < 0x78) → r ≡ malformed_number item → refused r ≡ sleb_at s item at
-      unfolding sleb_at
-      sleb_out h made =
-          sym (bind_answer _ (behind e t).read ∙ sym (fails _ made (λ i. lt-leb (fifth (behind e t).bs) 0x07 h.0 i || lt-leb 0x78 (fifth (behind e t).bs) h.1 i)))
+    pub some_left : 1 ≤ m - v
+    some_left = let b = behind e in let w = b.weight_is in let f = b.scale_is in let z = weight_small b.bs in omega arith
 
-      pub fits_twice : Fits w64 (2 * v)
-      fits_twice = let b = behind e t in let w = b.weight_is in let f = b.scale_is in let z = weight_small b.bs in let k = b.fifth_is.most in omega arith
+    pub fits_minus : m - v ≤ 2 ^ 31 → SFits w32 (negsuc 0 -ℤ to_z w32 (m - v - 1))
+    fits_minus q = minus_fits (m - v - 1) (let z = some_left in omega arith)
 
-      pub below_scale : v ≤ m
-      below_scale = let b = behind e t in let w = b.weight_is in let f = b.scale_is in let z = weight_small b.bs in omega arith
+    pub sleb_plus : 2 * v < m → v < 2 ^ 31 → answer (record { item = to_z w32 v; next = n }) ≡ sleb_at s item at
+    sleb_plus p q =
+        let b = behind e in
+        let w = b.weight_is in
+        let f = b.scale_is in
+        ap (λ (z : ℤ). answer (record { item = z; next = n })) (to_z_pos w32 v q ∙ ap pos (sym w) ∙ sym (signed_plus b.bs (omega arith))) ∙ sleb_in (inl (b.fifth_is.plus_low (omega arith) (omega arith)))
 
-      pub some_left : 1 ≤ m - v
-      some_left = let b = behind e t in let w = b.weight_is in let f = b.scale_is in let z = weight_small b.bs in omega arith
+    pub sleb_over : {r : Refusal} → 2 * v < m → 2 ^ 31 ≤ v → r ≡ malformed_number item → refused r ≡ sleb_at s item at
+    sleb_over p q made =
+        let b = behind e in
+        let w = b.weight_is in
+        let f = b.scale_is in
+        sleb_out (b.fifth_is.plus_high (omega arith) (omega arith)) made
 
-      pub fits_minus : m - v ≤ 2 ^ 31 → SFits w32 (negsuc 0 -ℤ to_z w32 (m - v - 1))
-      fits_minus q = minus_fits (m - v - 1) (let z = some_left in omega arith)
+    pub sleb_minus : m ≤ 2 * v → m - v ≤ 2 ^ 31 → answer (record { item = to_z w32 (of_z w32 (negsuc 0 -ℤ to_z w32 (m - v - 1))); next = n }) ≡ sleb_at s item at
+    sleb_minus p q =
+        let b = behind e in
+        let w = b.weight_is in
+        let f = b.scale_is in
+        let z = some_left in
+        let same : m - v - 1 ≡ scale b.bs - weight b.bs - 1 = omega arith in
+        ap (λ (y : ℤ). answer (record { item = y; next = n })) (minus_back (m - v - 1) (omega arith) ∙ ap negsuc same ∙ sym (signed_minus b.bs (omega arith)))
+        ∙ sleb_in (b.fifth_is.minus_low (omega arith) (omega arith))
 
-      pub sleb_plus : 2 * v < m → v < 2 ^ 31 → answer (record { item = to_z w32 v; next = n }) ≡ sleb_at s item at
-      sleb_plus p q =
-          let b = behind e t in
-          let w = b.weight_is in
-          let f = b.scale_is in
-          ap (λ (z : ℤ). answer (record { item = z; next = n })) (to_z_pos w32 v q ∙ ap pos (sym w) ∙ sym (signed_plus b.bs (omega arith))) ∙ sleb_in (inl (b.fifth_is.plus_low (omega arith) (omega arith)))
-
-      pub sleb_over : {r : Refusal} → 2 * v < m → 2 ^ 31 ≤ v → r ≡ malformed_number item → refused r ≡ sleb_at s item at
-      sleb_over p q made =
-          let b = behind e t in
-          let w = b.weight_is in
-          let f = b.scale_is in
-          sleb_out (b.fifth_is.plus_high (omega arith) (omega arith)) made
-
-      pub sleb_minus : m ≤ 2 * v → m - v ≤ 2 ^ 31 → answer (record { item = to_z w32 (of_z w32 (negsuc 0 -ℤ to_z w32 (m - v - 1))); next = n }) ≡ sleb_at s item at
-      sleb_minus p q =
-          let b = behind e t in
-          let w = b.weight_is in
-          let f = b.scale_is in
-          let z = some_left in
-          let same : m - v - 1 ≡ scale b.bs - weight b.bs - 1 = omega arith in
-          ap (λ (y : ℤ). answer (record { item = y; next = n })) (minus_back (m - v - 1) (omega arith) ∙ ap negsuc same ∙ sym (signed_minus b.bs (omega arith)))
-          ∙ sleb_in (b.fifth_is.minus_low (omega arith) (omega arith))
-
-      pub sleb_under : {r : Refusal} → m ≤ 2 * v → 2 ^ 31 < m - v → r ≡ malformed_number item → refused r ≡ sleb_at s item at
-      sleb_under p q made =
-          let b = behind e t in
-          let w = b.weight_is in
-          let f = b.scale_is in
-          sleb_out (b.fifth_is.minus_high (omega arith) (omega arith)) made
+    pub sleb_under : {r : Refusal} → m ≤ 2 * v → 2 ^ 31 < m - v → r ≡ malformed_number item → refused r ≡ sleb_at s item at
+    sleb_under p q made =
+        let b = behind e in
+        let w = b.weight_is in
+        let f = b.scale_is in
+        sleb_out (b.fifth_is.minus_high (omega arith) (omega arith)) made
 
 -- ---- a number of one byte, before anything is weighed
 weight_one : (b : ℕ) → b < 128 → weight (b ∷ []) ≡ b
@@ -342,34 +339,18 @@ module _ (s : List ℕ) (item p : ℕ) where
   pub plus_one_span : {r : Found (Option ℕ) ℕ} → plus_one_at s item p ≡ answer r → Span s p r.next
   plus_one_span {r} e = span ((plus_one_exact s item p).sound r e).uleb.bytes
 
-  -- the same, from the arm that was taken
-  pub leb_span : {x : LebAnswer} {v n : ℕ} → leb_outcome x ≡ uleb_at s item p → x ≡ L.Got v n → Span s p n
-  leb_span e t = uleb_span (sym (sym (ap leb_outcome t) ∙ e))
+  -- the same, from what a call answered
+  pub leb_span : {r : Found ℕ ℕ} → answer r ≡ uleb_at s item p → Span s p r.next
+  leb_span e = uleb_span (sym e)
 
-  pub signed_span : {x : SignedLebAnswer} {v : ℤ} {n : ℕ} → signed_outcome x ≡ sleb_at s item p → x ≡ S.Got v n → Span s p n
-  signed_span e t = sleb_span (sym (sym (ap signed_outcome t) ∙ e))
-
--- ---- a call's answer, by the arm that was taken
-pub on_leb : {B : Type 0} {x c : LebAnswer} {o : Outcome (Found ℕ ℕ)} {y : Outcome B} (k : Found ℕ ℕ → Outcome B)
-    → leb_outcome x ≡ o → x ≡ c → y ≡ (leb_outcome c >>= k) → y ≡ (o >>= k)
-on_leb = said leb_outcome
-
-pub on_signed : {B : Type 0} {x c : SignedLebAnswer} {o : Outcome (Found ℤ ℕ)} {y : Outcome B} (k : Found ℤ ℕ → Outcome B)
-    → signed_outcome x ≡ o → x ≡ c → y ≡ (signed_outcome c >>= k) → y ≡ (o >>= k)
-on_signed = said signed_outcome
-
-pub on_plus_one : {B : Type 0} {x c : PlusOneAnswer} {o : Outcome (Found (Option ℕ) ℕ)} {y : Outcome B} (k : Found (Option ℕ) ℕ → Outcome B)
-    → plus_one_outcome x ≡ o → x ≡ c → y ≡ (plus_one_outcome c >>= k) → y ≡ (o >>= k)
-on_plus_one = said plus_one_outcome
+  pub signed_span : {r : Found ℤ ℕ} → answer r ≡ sleb_at s item p → Span s p r.next
+  signed_span e = sleb_span (sym e)
 
 -- what this crate's functions are searched with
 pub ruleset weighing_laws = (head_first, head_end, head_last, head_more, head_full, fits_part, fits_sum, fits_scale, rules)
 
-pub ruleset uleb_laws = (uleb_one, uleb_refused, uleb_got, uleb_high, rules)
+pub ruleset uleb_laws = (handed_on, uleb_one, uleb_refused, uleb_got, uleb_high, rules)
 
-pub ruleset sleb_laws = (sleb_one, sleb_below, byte_minus, sleb_refused, sleb_plus, sleb_over, sleb_minus, sleb_under, fits_twice, below_scale, some_left, fits_minus, rules)
+pub ruleset sleb_laws = (handed_on, sleb_one, sleb_below, byte_minus, sleb_refused, sleb_plus, sleb_over, sleb_minus, sleb_under, fits_twice, below_scale, some_left, fits_minus, rules)
 
-pub ruleset plus_one_laws = (on_leb, plus_some, plus_none, calls, rules)
-
--- what a caller's functions are
-pub ruleset laws = (on_leb, on_signed, on_plus_one)
+pub ruleset plus_one_laws = (plus_some, plus_none, calls, rules)

@@ -30,12 +30,6 @@ pub struct MapList {
     pub handles: Table,
 }
 
-#[derive(Clone, Copy)]
-pub enum MapAnswer {
-    Got(MapList),
-    Refused(Refusal),
-}
-
 // What entries are judged by: the file's length, and the map's own place.
 #[derive(Clone, Copy)]
 pub struct MapJudge {
@@ -43,12 +37,6 @@ pub struct MapJudge {
     pub version: u32,
     pub length: usize,
     pub at: usize,
-}
-
-#[derive(Clone, Copy)]
-pub enum HandlesAnswer {
-    Got(Table),
-    Refused(Refusal),
 }
 
 // The number of a code in the table, 21 where it is not there.
@@ -159,7 +147,7 @@ fn handles_of(e: MapEntry, before: Table) -> Table
 }
 
 // The entries from a place on, which all lie within the slice.
-fn scan(s: &[u8], j: MapJudge, from: usize, count: u32) -> HandlesAnswer
+fn scan(s: &[u8], j: MapJudge, from: usize, count: u32) -> Result<Table, Refusal>
     requires { from + 12 * count ≤ length s.now }
     ensures { handles_outcome result ≡ scan_at s.now j from count }
 {
@@ -171,50 +159,46 @@ fn scan(s: &[u8], j: MapJudge, from: usize, count: u32) -> HandlesAnswer
     };
     let mut place = from;
     let mut floor: u64 = 0;
-    let mut left = count;
-    while 0 < left {
+    for _ in 0..count {
         let e = entry_at(s, order, place);
         let number = code_of(e.kind);
         if 21 <= number {
-            return HandlesAnswer::Refused(refusal::wrong_map(j.at));
+            return Err(refusal::wrong_map(j.at));
         }
         if is_next_allowed(j, e, floor, seen[number]) {
             seen[number] = 1;
             handles = handles_of(e, handles);
             floor = e.offset as u64 + 1;
         } else {
-            return HandlesAnswer::Refused(refusal::wrong_map(j.at));
+            return Err(refusal::wrong_map(j.at));
         }
         place += 12;
-        left -= 1;
     }
-    HandlesAnswer::Got(handles)
+    Ok(handles)
 }
 
 // The list at the map's offset: its length first, then its entries.
-fn list_at(s: &[u8], j: MapJudge) -> MapAnswer
+fn list_at(s: &[u8], j: MapJudge) -> Result<MapList, Refusal>
     ensures { map_outcome result ≡ kept_list_at s.now j }
 {
     let order = j.order;
     let at = j.at;
     if s.len() < at {
-        return MapAnswer::Refused(refusal::runs_past(at));
+        return Err(refusal::runs_past(at));
     }
     if s.len() - at < 4 {
-        return MapAnswer::Refused(refusal::runs_past(at));
+        return Err(refusal::runs_past(at));
     }
     let count = word::u32_at(s, at, order);
     if s.len() - at - 4 < 12 * count as usize {
-        return MapAnswer::Refused(refusal::runs_past(at));
+        return Err(refusal::runs_past(at));
     }
-    match scan(s, j, at + 4, count) {
-        HandlesAnswer::Refused(r) => MapAnswer::Refused(r),
-        HandlesAnswer::Got(handles) => MapAnswer::Got(MapList { count, handles }),
-    }
+    let handles = scan(s, j, at + 4, count)?;
+Ok(MapList { count, handles })
 }
 
 // The map of a file with this header: 8 for its own offset, 9, and then 16.
-pub fn map_of(f: &[u8], header: Header) -> MapAnswer
+pub fn map_of(f: &[u8], header: Header) -> Result<MapList, Refusal>
     ensures { map_outcome result ≡ kept_at f.now header }
 {
     let order = header.order;
@@ -230,5 +214,5 @@ pub fn map_of(f: &[u8], header: Header) -> MapAnswer
             },
         );
     }
-    MapAnswer::Refused(refusal::wrong_offset(0))
+    Err(refusal::wrong_offset(0))
 }

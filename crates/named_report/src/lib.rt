@@ -7,8 +7,8 @@ ghost use Rattle.report.specs.Stored.{Stored, written, content};
 ghost use Rattle.report.specs.Answers.{report_outcome};
 ghost use Rattle.named_report.specs.Output.{one_line, heading, output_of, status};
 
-use report::ReportAnswer;
-use verdict::Verdict;
+use refusal::Refusal;
+
 
 // Is a name one line? One with a line feed would be two, and the second could say what a report says.
 pub fn is_one_line(name: &[u8]) -> bool
@@ -57,30 +57,30 @@ fn put_heading(name: &[u8], out: &mut [u8]) -> usize
 }
 
 // All that goes out for an input: how many bytes, or 19, writing nothing, where the output is shorter.
-pub fn output_into(name: &[u8], verdict: Verdict, out: &mut [u8]) -> ReportAnswer
+pub fn output_into(name: &[u8], verdict: Result<Header, Refusal>, out: &mut [u8]) -> Result<usize, Refusal>
     ensures answer { report_outcome result ≡ written (output_of name.now (verdict_outcome verdict)) (length out.old) }
     ensures wrote { out.new ≡ content (output_of name.now (verdict_outcome verdict)) out.old }
 {
     let at = heading_size(name);
     if out.len() < at {
-        return ReportAnswer::Refused(refusal::no_room());
+        return Err(refusal::no_room());
     }
     match report::verdict_into(verdict, &mut out[at..]) {
-        ReportAnswer::Got(k) => {
+        Ok(k) => {
             let end = at + k;
             put_heading(name, out);
-            ReportAnswer::Got(end)
+            Ok(end)
         }
-        ReportAnswer::Refused(r) => ReportAnswer::Refused(r),
+        Err(r) => Err(r),
     }
 }
 
 // What an input comes to that was read: 0 where it is accepted, 1 where it is refused.
-pub fn status_of(verdict: Verdict) -> u8
+pub fn status_of(verdict: Result<Header, Refusal>) -> u8
     ensures { result ≡ status (verdict_outcome verdict) }
 {
     match verdict {
-        Verdict::Accepted(_) => 0,
-        Verdict::Refused(_) => 1,
+        Ok(_) => 0,
+        Err(_) => 1,
     }
 }

@@ -1,7 +1,5 @@
 -- What the answers of the code say.
 use Rattle.register_text.specs.Wholes.{Halves, exactly, broken, Worth, whole, not_whole}
-use Rattle.register_text.specs.declared.Half as H
-use Rattle.register_text.specs.declared.Whole as W
 
 abbrev pub half_worth : H.Half → Halves
 half_worth (H.TheVariants.Whole n) = exactly n

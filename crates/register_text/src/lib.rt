@@ -9,7 +9,8 @@ ghost use Rattle.register_text.specs.Numbers.{signed, integer, hexadecimal};
 ghost use Rattle.register_text.specs.Wholes.{halved_by, scaled_of, float_worth, double_worth};
 ghost use Rattle.register_text.specs.Answers.{half_worth, whole_worth};
 
-use report::ReportAnswer;
+use refusal::Refusal;
+
 
 // How far a text has been written: the place of its next byte, and how many bytes of the output are used.
 #[derive(Clone, Copy)]
@@ -18,18 +19,11 @@ pub struct Piece {
     pub used: usize,
 }
 
-// A number that was halved, where it stayed whole.
-#[derive(Clone, Copy)]
-pub enum Half {
-    Whole(u64),
-    Broken,
-}
-
 // The whole number that a float is, where it is one; 0 is never negative.
 #[derive(Clone, Copy)]
-pub enum Whole {
-    Number { negative: bool, magnitude: u64 },
-    Absent,
+pub struct WholeNumber {
+    pub negative: bool,
+    pub magnitude: u64,
 }
 
 // The signs that take a key apart: a point, two brackets and an at.
@@ -138,25 +132,21 @@ pub fn escape_into(text: &[u8], from: usize, key: bool, out: &mut [u8]) -> Piece
 }
 
 // A minus and a number's digits: how many bytes, or 19, writing nothing, where the output is shorter.
-fn minus_into(n: u64, out: &mut [u8]) -> ReportAnswer
+fn minus_into(n: u64, out: &mut [u8]) -> Result<usize, Refusal>
     ensures answer { report_outcome result ≡ written (signed true n) (length out.old) }
     ensures wrote { out.new ≡ content (signed true n) out.old }
 {
     if out.len() < 1 {
-        return ReportAnswer::Refused(refusal::no_room());
+        return Err(refusal::no_room());
     }
-    match report::number_into(n, &mut out[1..]) {
-        ReportAnswer::Refused(r) => ReportAnswer::Refused(r),
-        ReportAnswer::Got(k) => {
-            let end = k + 1;
+    let k = report::number_into(n, &mut out[1..])?;
+let end = k + 1;
             out[0] = b'-';
-            ReportAnswer::Got(end)
-        }
-    }
+            Ok(end)
 }
 
 // A number with its sign, in decimal.
-pub fn signed_into(negative: bool, n: u64, out: &mut [u8]) -> ReportAnswer
+pub fn signed_into(negative: bool, n: u64, out: &mut [u8]) -> Result<usize, Refusal>
     ensures answer { report_outcome result ≡ written (signed negative n) (length out.old) }
     ensures wrote { out.new ≡ content (signed negative n) out.old }
 {
@@ -167,7 +157,7 @@ pub fn signed_into(negative: bool, n: u64, out: &mut [u8]) -> ReportAnswer
 }
 
 // A signed number in decimal.
-pub fn integer_into(number: i64, out: &mut [u8]) -> ReportAnswer
+pub fn integer_into(number: i64, out: &mut [u8]) -> Result<usize, Refusal>
     ensures answer { report_outcome result ≡ written (integer number) (length out.old) }
     ensures wrote { out.new ≡ content (integer number) out.old }
 {
@@ -179,12 +169,12 @@ pub fn integer_into(number: i64, out: &mut [u8]) -> ReportAnswer
 }
 
 // A number in so many hexadecimal digits, the highest first; what is above them is left out.
-pub fn hex_into(n: u64, digits: usize, out: &mut [u8]) -> ReportAnswer
+pub fn hex_into(n: u64, digits: usize, out: &mut [u8]) -> Result<usize, Refusal>
     ensures answer { report_outcome result ≡ written (hexadecimal digits n) (length out.old) }
     ensures wrote { out.new ≡ content (hexadecimal digits n) out.old }
 {
     if out.len() < digits {
-        return ReportAnswer::Refused(refusal::no_room());
+        return Err(refusal::no_room());
     }
     let mut i = digits;
     let mut rest = n;
@@ -193,91 +183,74 @@ pub fn hex_into(n: u64, digits: usize, out: &mut [u8]) -> ReportAnswer
         out[i] = hex_digit((rest % 16) as u8);
         rest = rest / 16;
     }
-    ReportAnswer::Got(digits)
+    Ok(digits)
 }
 
 // A number halved so many times, where it stays whole each time.
-fn halved(n: u64, times: u32) -> Half
+fn halved(n: u64, times: u32) -> Option<u64>
     ensures { half_worth result ≡ halved_by times n }
 {
     let mut rest = n;
-    let mut left = times;
-    while 0 < left {
+    for _ in 0..times {
         if rest % 2 != 0 {
-            return Half::Broken;
+            return None;
         }
         rest = rest / 2;
-        left -= 1;
     }
-    Half::Whole(rest)
+    Some(rest)
 }
 
 // A significand halved so many times, with a sign.
-fn scaled(negative: bool, significand: u64, times: u32) -> Whole
+fn scaled(negative: bool, significand: u64, times: u32) -> Option<WholeNumber>
     ensures { whole_worth result ≡ scaled_of negative significand times }
 {
     match halved(significand, times) {
-        Half::Broken => Whole::Absent,
-        Half::Whole(magnitude) => Whole::Number {
-            negative,
-            magnitude,
-        },
+        None => None,
+        Some(magnitude) => Some(WholeNumber { negative, magnitude }),
     }
 }
 
 // The whole number that a float of these bits is, of at most 2^24 either way. From exponent 127 on it is 1 or more; from 150 on it is whole, and 151 is
 // from 2^24 on.
-pub fn whole_of_float(bits: u32) -> Whole
+pub fn whole_of_float(bits: u32) -> Option<WholeNumber>
     ensures { whole_worth result ≡ float_worth bits }
 {
     let negative = 2147483648 <= bits;
     let exponent = bits / 8388608 % 256;
     let fraction = (bits % 8388608) as u64;
     if bits % 2147483648 == 0 {
-        return Whole::Number {
-            negative: false,
-            magnitude: 0,
-        };
+        return Some(WholeNumber { negative: false, magnitude: 0 });
     }
     if exponent < 127 {
-        return Whole::Absent;
+        return None;
     }
     if exponent <= 150 {
         return scaled(negative, 8388608 + fraction, 150 - exponent);
     }
     if bits % 2147483648 == 1266679808 {
-        return Whole::Number {
-            negative,
-            magnitude: 16777216,
-        };
+        return Some(WholeNumber { negative, magnitude: 16777216 });
     }
-    Whole::Absent
+    None
 }
 
 // The whole number that a double of these bits is, of at most 2^53 either way.
-pub fn whole_of_double(bits: u64) -> Whole
+pub fn whole_of_double(bits: u64) -> Option<WholeNumber>
     ensures { whole_worth result ≡ double_worth bits }
 {
     let negative = 9223372036854775808 <= bits;
     let exponent = (bits / 4503599627370496 % 2048) as u32;
     let fraction = bits % 4503599627370496;
     if bits % 9223372036854775808 == 0 {
-        return Whole::Number {
-            negative: false,
-            magnitude: 0,
-        };
+        return Some(WholeNumber { negative: false, magnitude: 0 });
     }
     if exponent < 1023 {
-        return Whole::Absent;
+        return None;
     }
     if exponent <= 1075 {
         return scaled(negative, 4503599627370496 + fraction, 1075 - exponent);
     }
     if bits % 9223372036854775808 == 4845873199050653696 {
-        return Whole::Number {
-            negative,
-            magnitude: 9007199254740992,
-        };
+        return Some(WholeNumber { negative, magnitude: 9007199254740992 });
     }
-    Whole::Absent
+    None
 }

@@ -2,11 +2,10 @@
 use super::lines::UNREAD;
 use super::values::Fact;
 use super::{lines, names, values};
-use annotation_directories::DirectoryHeadAnswer;
 use header::Header;
-use leb128::LebAnswer;
 use std::env::Env;
 use value_heads::Walk;
+use refusal::Read;
 
 // The field entries of a directory: where it is, how many there are, and whether their fields are in rising order.
 #[derive(Clone, Copy)]
@@ -73,8 +72,8 @@ pub fn entries_at(f: &[u8], header: Header, directory: u32) -> Entries {
     }
     let s = header::up_to_end(f, header);
     match annotation_directories::directory(s, header::plain_frame(header), directory as usize) {
-        DirectoryHeadAnswer::Refused(_) => no_entries(),
-        DirectoryHeadAnswer::Got(h) => Entries {
+        Err(_) => no_entries(),
+        Ok(h) => Entries {
             directory,
             count: h.fields,
             rising: is_rising(f, header, directory, h.fields),
@@ -96,13 +95,10 @@ fn write_body(
 ) -> usize {
     let s = header::up_to_end(f, header);
     match value_heads::index_at(s, w.item, w.types, at) {
-        LebAnswer::Refused(_) => UNREAD,
-        LebAnswer::Got {
-            value: type_index,
-            next: middle,
-        } => match leb128::uleb(s, middle, w.item) {
-            LebAnswer::Refused(_) => UNREAD,
-            LebAnswer::Got { value: count, next } => {
+        Err(_) => UNREAD,
+        Ok(Read { value: type_index, next: middle }) => match leb128::uleb(s, middle, w.item) {
+            Err(_) => UNREAD,
+            Ok(Read { value: count, next }) => {
                 let p = names::put_type_column(rt, f, header, type_index, out, used);
                 let q = lines::put(rt, b"\n", out, p);
                 let gone = values::write_values(rt, f, header, w, fact, true, count, next, out, q);
@@ -225,8 +221,7 @@ pub fn write_entries(
     let mut number: u32 = 0;
     let mut u = used;
     let mut k = from;
-    let mut left = left_of(entries.count, from);
-    while 0 < left {
+    for _ in 0..left_of(entries.count, from) {
         if is_past(entries.rising, index, entry_field(f, header, directory, k)) {
             return Reached { entry: k, used: u };
         }
@@ -236,7 +231,6 @@ pub fn write_entries(
         number = numbered.number;
         u = numbered.used;
         k = std::num::wrapping_add_u32(k, 1);
-        left -= 1;
     }
     Reached { entry: k, used: u }
 }

@@ -3,14 +3,12 @@ use super::annotations::Entries;
 use super::lines::UNREAD;
 use super::values::{Fact, Gone};
 use super::{annotations, lines, names, values};
-use class_ids::{Class, ClassAnswer};
-use class_members::{MemberFoundAnswer, MemberJudge};
+use class_ids::Class;
+use class_members::MemberJudge;
 use header::Header;
-use ids::{IndexAnswer, MemberIdAnswer};
-use leb128::LebAnswer;
-use map_list::MapAnswer;
 use std::env::Env;
-use text::TextAnswer;
+use refusal::Read;
+use text::TextPlace;
 
 // How many things there are, and where they begin.
 #[derive(Clone, Copy)]
@@ -31,8 +29,8 @@ struct Rest {
 // A count at a place, and where it ends.
 fn count_at(s: &[u8], item: usize, at: usize) -> Counted {
     match leb128::uleb(s, at, item) {
-        LebAnswer::Refused(_) => Counted { count: 0, next: at },
-        LebAnswer::Got { value: count, next } => Counted { count, next },
+        Err(_) => Counted { count: 0, next: at },
+        Ok(Read { value: count, next }) => Counted { count, next },
     }
 }
 
@@ -103,14 +101,10 @@ fn put_default(
     used: usize,
 ) -> usize {
     match names::type_string(f, header, kind) {
-        IndexAnswer::Refused(_) => UNREAD,
-        IndexAnswer::Got(string) => match string_ids::string_at(f, header, string) {
-            TextAnswer::Refused(_) => UNREAD,
-            TextAnswer::Got {
-                start,
-                length,
-                units: _,
-            } => {
+        Err(_) => UNREAD,
+        Ok(string) => match string_ids::string_at(f, header, string) {
+            Err(_) => UNREAD,
+            Ok(TextPlace { start, length, units: _ }) => {
                 let value = static_kinds::default_of(word::bytes_at(f, start, length));
                 let p = values::put_fact(rt, f, header, fact, out, used);
                 values::put_value(rt, f, header, value, out, p)
@@ -163,13 +157,13 @@ fn write_field(
     out: &mut [u8],
 ) -> Rest {
     match names::field_of(f, header, index) {
-        MemberIdAnswer::Refused(_) => Rest {
+        Err(_) => Rest {
             stored: 0,
             value: 0,
             entry: 0,
             used: UNREAD,
         },
-        MemberIdAnswer::Got(m) => {
+        Ok(m) => {
             let fact = Fact {
                 class: c.class,
                 of_field: true,
@@ -237,13 +231,12 @@ fn write_fields(
     let mut p = statics.next;
     let mut base: u32 = 0;
     let mut later = false;
-    let mut left = statics.count;
-    while 0 < left {
+    for _ in 0..statics.count {
         match class_members::member_found(s, judge, c.data as usize, base, later, p) {
-            MemberFoundAnswer::Refused(_) => {
+            Err(_) => {
                 return UNREAD;
             }
-            MemberFoundAnswer::Got { member, next } => {
+            Ok(Read { value: member, next }) => {
                 rest = write_field(
                     rt,
                     f,
@@ -261,7 +254,6 @@ fn write_fields(
             }
         }
         later = true;
-        left -= 1;
     }
     rest.used
 }
@@ -304,8 +296,8 @@ fn write_class(
     let classes = header.classes;
     let frame = header::frame_of(header, handles);
     match class_ids::class_at(f, frame, header.end, classes.offset, n) {
-        ClassAnswer::Refused(_) => UNREAD,
-        ClassAnswer::Got(c) => {
+        Err(_) => UNREAD,
+        Ok(c) => {
             let entries = annotations::entries_at(f, header, c.directory);
             let p = write_own(rt, f, header, handles, c.class, entries.set, out, used);
             write_fields(rt, f, header, handles, c, entries, out, p)
@@ -322,17 +314,15 @@ pub fn write_classes(
     used: usize,
 ) -> usize {
     match map_list::map_of(f, header) {
-        MapAnswer::Refused(_) => UNREAD,
-        MapAnswer::Got(m) => {
+        Err(_) => UNREAD,
+        Ok(m) => {
             let handles = m.handles;
             let classes = header.classes;
             let mut u = used;
             let mut n: u32 = 0;
-            let mut left = classes.count;
-            while 0 < left {
+            for _ in 0..classes.count {
                 u = write_class(rt, f, header, handles.count, n, out, u);
                 n = std::num::wrapping_add_u32(n, 1);
-                left -= 1;
             }
             u
         }

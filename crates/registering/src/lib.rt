@@ -10,7 +10,6 @@ use checking::ROOM;
 use header::Header;
 use std::env::Env;
 use std::fs::Files;
-use verdict::Verdict;
 
 mod annotations;
 mod classes;
@@ -34,8 +33,8 @@ fn register_bytes(rt: &(impl Env + Print), f: &[u8], what: &[u8], name: &[u8]) -
 {
     let verdict = file_report::input_verdict(f);
     match verdict {
-        Verdict::Refused(_) => checking::write_report(rt, verdict, what, name),
-        Verdict::Accepted(header) => write_register(rt, f, header, what, name),
+        Err(_) => checking::write_report(rt, verdict, what, name),
+        Ok(header) => write_register(rt, f, header, what, name),
     }
 }
 

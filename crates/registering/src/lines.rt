@@ -2,8 +2,8 @@
 // failed, and UNREAD that the file could not be read on: then nothing more is put or written.
 ghost use Rattle.registering.specs.Ends.{Ended};
 
-use report::ReportAnswer;
 use std::env::Env;
+use refusal::Refusal;
 
 // How large the room is.
 pub const SPACE: usize = 16384;
@@ -38,10 +38,10 @@ fn reserve(rt: &(impl Env + Print), out: &[u8], used: usize) -> usize {
 }
 
 // How much is used after a text or number was put behind what was used.
-fn after(used: usize, answer: ReportAnswer) -> usize {
+fn after(used: usize, answer: Result<usize, Refusal>) -> usize {
     match answer {
-        ReportAnswer::Refused(_) => UNREAD,
-        ReportAnswer::Got(k) => {
+        Err(_) => UNREAD,
+        Ok(k) => {
             if UNREAD < k {
                 return UNREAD;
             }

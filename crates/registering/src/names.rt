@@ -2,9 +2,10 @@
 use super::lines;
 use super::lines::UNREAD;
 use header::Header;
-use ids::{IndexAnswer, MemberId, MemberIdAnswer};
+use ids::MemberId;
 use std::env::Env;
-use text::TextAnswer;
+use refusal::Refusal;
+use text::TextPlace;
 
 // String n.
 pub fn put_string(
@@ -17,17 +18,13 @@ pub fn put_string(
     used: usize,
 ) -> usize {
     match string_ids::string_at(f, header, n) {
-        TextAnswer::Refused(_) => UNREAD,
-        TextAnswer::Got {
-            start,
-            length,
-            units: _,
-        } => lines::put_text(rt, word::bytes_at(f, start, length), key, out, used),
+        Err(_) => UNREAD,
+        Ok(TextPlace { start, length, units: _ }) => lines::put_text(rt, word::bytes_at(f, start, length), key, out, used),
     }
 }
 
 // The string of type n.
-pub fn type_string(f: &[u8], header: Header, n: u32) -> IndexAnswer {
+pub fn type_string(f: &[u8], header: Header, n: u32) -> Result<u32, Refusal> {
     let types = header.types;
     ids::type_at(f, header::plain_frame(header), types.offset, n)
 }
@@ -42,8 +39,8 @@ pub fn put_type(
     used: usize,
 ) -> usize {
     match type_string(f, header, n) {
-        IndexAnswer::Refused(_) => UNREAD,
-        IndexAnswer::Got(string) => put_string(rt, f, header, string, false, out, used),
+        Err(_) => UNREAD,
+        Ok(string) => put_string(rt, f, header, string, false, out, used),
     }
 }
 
@@ -80,7 +77,7 @@ pub fn put_number_column(rt: &(impl Env + Print), n: u64, out: &mut [u8], used: 
 }
 
 // The record of field n.
-pub fn field_of(f: &[u8], header: Header, n: u32) -> MemberIdAnswer {
+pub fn field_of(f: &[u8], header: Header, n: u32) -> Result<MemberId, Refusal> {
     let types = header.types;
     let fields = header.fields;
     ids::member_at(
@@ -115,8 +112,8 @@ pub fn put_field(
     used: usize,
 ) -> usize {
     match field_of(f, header, n) {
-        MemberIdAnswer::Refused(_) => UNREAD,
-        MemberIdAnswer::Got(m) => {
+        Err(_) => UNREAD,
+        Ok(m) => {
             let p = put_member(rt, f, header, m, out, used);
             put_type_column(rt, f, header, m.kind, out, p)
         }
@@ -141,8 +138,8 @@ pub fn put_method(
         methods.offset,
         n,
     ) {
-        MemberIdAnswer::Refused(_) => UNREAD,
-        MemberIdAnswer::Got(m) => {
+        Err(_) => UNREAD,
+        Ok(m) => {
             let p = put_member(rt, f, header, m, out, used);
             put_number_column(rt, m.kind as u64, out, p)
         }

@@ -1,13 +1,13 @@
 // A value and all that is in it: a line for each. Bodies in bodies are gone over with a stack, a step for each body that is open.
 use super::lines::UNREAD;
 use super::{lines, names};
-use decoded_value::{DecodedAnswer, Value};
+use decoded_value::Value;
 use encoded_value::DEEPEST_VALUE;
 use header::Header;
-use leb128::LebAnswer;
-use register_text::Whole;
 use std::env::Env;
-use value_heads::{HeadByteAnswer, Walk};
+use value_heads::Walk;
+use refusal::Read;
+use register_text::WholeNumber;
 
 // How many bodies may be open in a value.
 const STEPS: usize = 64;
@@ -159,13 +159,10 @@ fn put_char(rt: &(impl Env + Print), n: u16, out: &mut [u8], used: usize) -> usi
 }
 
 // The whole number of a float, where it is one, in a column more.
-fn put_whole(rt: &(impl Env + Print), whole: Whole, out: &mut [u8], used: usize) -> usize {
+fn put_whole(rt: &(impl Env + Print), whole: Option<WholeNumber>, out: &mut [u8], used: usize) -> usize {
     match whole {
-        Whole::Absent => used,
-        Whole::Number {
-            negative,
-            magnitude,
-        } => {
+        None => used,
+        Some(WholeNumber { negative, magnitude }) => {
             let p = lines::put(rt, b"\t", out, used);
             lines::put_signed(rt, negative, magnitude, out, p)
         }
@@ -306,8 +303,8 @@ fn show_array(
     used: usize,
 ) -> Shown {
     match leb128::uleb(s, at, item) {
-        LebAnswer::Refused(_) => stopped(at),
-        LebAnswer::Got { value: count, next } => {
+        Err(_) => stopped(at),
+        Ok(Read { value: count, next }) => {
             let p = lines::put(rt, b"\tarray", out, used);
             let q = names::put_number_column(rt, count as u64, out, p);
             Shown {
@@ -333,13 +330,10 @@ fn show_annotation(
 ) -> Shown {
     let s = header::up_to_end(f, header);
     match value_heads::index_at(s, w.item, w.types, at) {
-        LebAnswer::Refused(_) => stopped(at),
-        LebAnswer::Got {
-            value: type_index,
-            next: middle,
-        } => match leb128::uleb(s, middle, w.item) {
-            LebAnswer::Refused(_) => stopped(at),
-            LebAnswer::Got { value: count, next } => {
+        Err(_) => stopped(at),
+        Ok(Read { value: type_index, next: middle }) => match leb128::uleb(s, middle, w.item) {
+            Err(_) => stopped(at),
+            Ok(Read { value: count, next }) => {
                 let p = lines::put(rt, b"\tannotation", out, used);
                 let q = names::put_type_column(rt, f, header, type_index, out, p);
                 let r = names::put_number_column(rt, count as u64, out, q);
@@ -366,8 +360,8 @@ fn show_plain(
     used: usize,
 ) -> Shown {
     match decoded_value::decode_at(header::up_to_end(f, header), w, at, DEEPEST_VALUE) {
-        DecodedAnswer::Refused(_) => stopped(at),
-        DecodedAnswer::Got { value, next } => Shown {
+        Err(_) => stopped(at),
+        Ok(Read { value, next }) => Shown {
             next,
             used: put_value(rt, f, header, value, out, used),
             opens: false,
@@ -407,8 +401,8 @@ fn enter(s: &[u8], w: Walk, step: u64, at: usize) -> Entered {
         return Entered { step: step + 1, at };
     }
     match value_heads::index_at(s, w.item, w.strings, at) {
-        LebAnswer::Refused(_) => Entered { step, at: s.len() },
-        LebAnswer::Got { value: name, next } => Entered {
+        Err(_) => Entered { step, at: s.len() },
+        Ok(Read { value: name, next }) => Entered {
             step: NAMED + name as u64,
             at: next,
         },

@@ -1,8 +1,8 @@
 -- What the answers of the code say.
-use Rattle.std.specs.Prelude.{ℕ}
-use Rattle.refusal.specs.Outcome.{Outcome, answer, refused}
-use Rattle.report.specs.declared.ReportAnswer as R
+use Rattle.std.specs.Prelude.{ℕ, Result}
+use Rattle.refusal.specs.Outcome.{Outcome}
+use Rattle.refusal.specs.Answers.{outcome}
+use Rattle.refusal.specs.declared.Refusal.{Refusal}
 
-abbrev pub report_outcome : R.ReportAnswer → Outcome ℕ
-report_outcome (R.TheVariants.Got n) = answer n
-report_outcome (R.TheVariants.Refused r) = refused r
+abbrev pub report_outcome : Result ℕ Refusal → Outcome ℕ
+report_outcome = outcome (λ (n : ℕ). n)

@@ -11,14 +11,7 @@ ghost use Rattle.report.specs.Answers.{report_outcome};
 
 use header::Header;
 use refusal::Refusal;
-use verdict::Verdict;
 use word::Endian;
-
-#[derive(Clone, Copy)]
-pub enum ReportAnswer {
-    Got(usize),
-    Refused(Refusal),
-}
 
 // One byte, where there is room for it; the place after it.
 fn put_byte(b: u8, out: &mut [u8], at: usize) -> usize
@@ -183,19 +176,19 @@ fn put_accepted(header: Header, out: &mut [u8]) -> usize
 }
 
 // A whole text to a lent output: its length, or 19, writing nothing, where the output is shorter.
-pub fn text_into(text: &[u8], out: &mut [u8]) -> ReportAnswer
+pub fn text_into(text: &[u8], out: &mut [u8]) -> Result<usize, Refusal>
     ensures answer { report_outcome result ≡ written text.now (length out.old) }
     ensures wrote { out.new ≡ content text.now out.old }
 {
     if out.len() < text.len() {
-        return ReportAnswer::Refused(refusal::no_room());
+        return Err(refusal::no_room());
     }
     put(text, out, 0);
-    ReportAnswer::Got(text.len())
+    Ok(text.len())
 }
 
 // A number's digits to a lent output: how many, or 19, writing nothing, where the output is shorter.
-pub fn number_into(n: u64, out: &mut [u8]) -> ReportAnswer
+pub fn number_into(n: u64, out: &mut [u8]) -> Result<usize, Refusal>
     ensures answer { report_outcome result ≡ written (decimal n) (length out.old) }
     ensures wrote { out.new ≡ content (decimal n) out.old }
 {
@@ -205,7 +198,7 @@ pub fn number_into(n: u64, out: &mut [u8]) -> ReportAnswer
 }
 
 // The report of an accepted file: how many bytes, or 19, writing nothing, where the output is shorter.
-fn accepted_into(header: Header, out: &mut [u8]) -> ReportAnswer
+fn accepted_into(header: Header, out: &mut [u8]) -> Result<usize, Refusal>
     ensures answer { report_outcome result ≡ written (lines (accepted_lines header)) (length out.old) }
     ensures wrote { out.new ≡ content (lines (accepted_lines header)) out.old }
 {
@@ -215,7 +208,7 @@ fn accepted_into(header: Header, out: &mut [u8]) -> ReportAnswer
 }
 
 // The report of a refusal.
-fn refused_into(refusal: Refusal, out: &mut [u8]) -> ReportAnswer
+fn refused_into(refusal: Refusal, out: &mut [u8]) -> Result<usize, Refusal>
     ensures answer { report_outcome result ≡ written (lines (refused_lines refusal)) (length out.old) }
     ensures wrote { out.new ≡ content (lines (refused_lines refusal)) out.old }
 {
@@ -234,12 +227,12 @@ fn refused_into(refusal: Refusal, out: &mut [u8]) -> ReportAnswer
 }
 
 // The report of a verdict: of the header of an accepted file, or of the refusal.
-pub fn verdict_into(verdict: Verdict, out: &mut [u8]) -> ReportAnswer
+pub fn verdict_into(verdict: Result<Header, Refusal>, out: &mut [u8]) -> Result<usize, Refusal>
     ensures answer { report_outcome result ≡ written (report_of (verdict_outcome verdict)) (length out.old) }
     ensures wrote { out.new ≡ content (report_of (verdict_outcome verdict)) out.old }
 {
     match verdict {
-        Verdict::Accepted(header) => accepted_into(header, out),
-        Verdict::Refused(r) => refused_into(r, out),
+        Ok(header) => accepted_into(header, out),
+        Err(r) => refused_into(r, out),
     }
 }

@@ -8,96 +8,80 @@ ghost use Rattle.set_readers.specs.Sets.{class_set_in, class_set, entry_set_in, 
 ghost use Rattle.set_readers.specs.Sets.{references_in, parameter_set_count, set_count, set_number, annotation_count, annotation_place};
 ghost use Rattle.directory_readers.specs.Answers.{reached_outcome};
 
-use annotation_directories::DirectoryEntryAnswer;
-use annotation_lists::WordAnswer;
-use directory_readers::{DirectoryAnswer, Reached, ReachedAnswer};
+use directory_readers::Reached;
 use header::Header;
+use refusal::Refusal;
+use annotation_directories::DirectoryEntry;
 
 // Where the class's set is, by the directory at a place.
-fn class_set_in(f: &[u8], header: Header, at: u32) -> ReachedAnswer
+fn class_set_in(f: &[u8], header: Header, at: u32) -> Result<Reached, Refusal>
     ensures { reached_outcome result ≡ class_set_in f.now header at }
 {
     match directory_readers::head_in(f, header, at) {
-        DirectoryAnswer::Refused(r) => ReachedAnswer::Refused(r),
-        DirectoryAnswer::Absent => ReachedAnswer::Got(Reached {
+        Err(r) => Err(r),
+        Ok(None) => Ok(Reached {
             header: header,
             place: 0,
         }),
-        DirectoryAnswer::Got(head) => ReachedAnswer::Got(Reached {
+        Ok(Some(head)) => Ok(Reached {
             header: header,
             place: head.set,
         }),
     }
 }
 
-fn class_set(f: &[u8], c: u32) -> ReachedAnswer
+fn class_set(f: &[u8], c: u32) -> Result<Reached, Refusal>
     ensures { reached_outcome result ≡ class_set f.now c }
 {
-    match directory_readers::directory_of(f, c) {
-        ReachedAnswer::Refused(r) => ReachedAnswer::Refused(r),
-        ReachedAnswer::Got(d) => {
-            let header = d.header;
+    let d = directory_readers::directory_of(f, c)?;
+let header = d.header;
             class_set_in(f, header, d.place)
-        }
-    }
 }
 
 // Where entry e of a list leads to, by the directory at a place.
-fn entry_set_in(f: &[u8], header: Header, at: u32, list: u32, e: u32) -> ReachedAnswer
+fn entry_set_in(f: &[u8], header: Header, at: u32, list: u32, e: u32) -> Result<Reached, Refusal>
     ensures { reached_outcome result ≡ entry_set_in f.now header at list e }
 {
-    match directory_readers::entry_in(f, header, at, list, e) {
-        DirectoryEntryAnswer::Refused(r) => ReachedAnswer::Refused(r),
-        DirectoryEntryAnswer::Got { index: _, offset } => ReachedAnswer::Got(Reached {
+    let DirectoryEntry { offset, .. } = directory_readers::entry_in(f, header, at, list, e)?;
+Ok(Reached {
             header: header,
             place: offset,
-        }),
-    }
+        })
 }
 
-fn entry_set(f: &[u8], c: u32, list: u32, e: u32) -> ReachedAnswer
+fn entry_set(f: &[u8], c: u32, list: u32, e: u32) -> Result<Reached, Refusal>
     ensures { reached_outcome result ≡ entry_set f.now c list e }
 {
-    match directory_readers::directory_of(f, c) {
-        ReachedAnswer::Refused(r) => ReachedAnswer::Refused(r),
-        ReachedAnswer::Got(d) => {
-            let header = d.header;
+    let d = directory_readers::directory_of(f, c)?;
+let header = d.header;
             entry_set_in(f, header, d.place, list, e)
-        }
-    }
 }
 
 // Where set p of the reference list at a place is, 0 where it is absent.
-fn parameter_set_in(f: &[u8], header: Header, at: u32, p: u32) -> ReachedAnswer
+fn parameter_set_in(f: &[u8], header: Header, at: u32, p: u32) -> Result<Reached, Refusal>
     ensures { reached_outcome result ≡ parameter_set_in f.now header at p }
 {
-    match annotation_lists::reference_offset(
+    let place = annotation_lists::reference_offset(
         header::up_to_end(f, header),
         header::plain_frame(header),
         at as usize,
         p,
-    ) {
-        WordAnswer::Refused(r) => ReachedAnswer::Refused(r),
-        WordAnswer::Got(place) => ReachedAnswer::Got(Reached {
+    )?;
+Ok(Reached {
             header: header,
             place,
-        }),
-    }
+        })
 }
 
-fn parameter_set(f: &[u8], c: u32, e: u32, p: u32) -> ReachedAnswer
+fn parameter_set(f: &[u8], c: u32, e: u32, p: u32) -> Result<Reached, Refusal>
     ensures { reached_outcome result ≡ parameter_set f.now c e p }
 {
-    match entry_set(f, c, 2, e) {
-        ReachedAnswer::Refused(r) => ReachedAnswer::Refused(r),
-        ReachedAnswer::Got(l) => {
-            let header = l.header;
+    let l = entry_set(f, c, 2, e)?;
+let header = l.header;
             parameter_set_in(f, header, l.place, p)
-        }
-    }
 }
 
-fn references_in(f: &[u8], header: Header, at: u32) -> WordAnswer
+fn references_in(f: &[u8], header: Header, at: u32) -> Result<u32, Refusal>
     ensures { word_outcome result ≡ references_in f.now header at }
 {
     annotation_lists::reference_count(
@@ -108,20 +92,16 @@ fn references_in(f: &[u8], header: Header, at: u32) -> WordAnswer
 }
 
 // How many parameters, absent sets too, parameter entry e of class c has.
-pub fn parameter_set_count(f: &[u8], c: u32, e: u32) -> WordAnswer
+pub fn parameter_set_count(f: &[u8], c: u32, e: u32) -> Result<u32, Refusal>
     ensures { word_outcome result ≡ parameter_set_count f.now c e }
 {
-    match entry_set(f, c, 2, e) {
-        ReachedAnswer::Refused(r) => WordAnswer::Refused(r),
-        ReachedAnswer::Got(l) => {
-            let header = l.header;
+    let l = entry_set(f, c, 2, e)?;
+let header = l.header;
             references_in(f, header, l.place)
-        }
-    }
 }
 
 // How many annotations the set at a place has, 0 where it is absent.
-fn set_count(f: &[u8], header: Header, at: u32) -> WordAnswer
+fn set_count(f: &[u8], header: Header, at: u32) -> Result<u32, Refusal>
     ensures { word_outcome result ≡ set_count f.now header at }
 {
     if 0 < at {
@@ -131,10 +111,10 @@ fn set_count(f: &[u8], header: Header, at: u32) -> WordAnswer
             at as usize,
         );
     }
-    WordAnswer::Got(0)
+    Ok(0)
 }
 
-fn set_number(f: &[u8], header: Header, at: u32, k: u32) -> WordAnswer
+fn set_number(f: &[u8], header: Header, at: u32, k: u32) -> Result<u32, Refusal>
     ensures { word_outcome result ≡ set_number f.now header at k }
 {
     if 0 < at {
@@ -145,86 +125,78 @@ fn set_number(f: &[u8], header: Header, at: u32, k: u32) -> WordAnswer
             k,
         );
     }
-    WordAnswer::Refused(refusal::not_there())
+    Err(refusal::not_there())
 }
 
 // How many annotations the set has that was reached.
-fn count_of(f: &[u8], set: ReachedAnswer) -> WordAnswer
+fn count_of(f: &[u8], set: Result<Reached, Refusal>) -> Result<u32, Refusal>
     ensures { word_outcome result ≡ annotation_count f.now (reached_outcome set) }
 {
-    match set {
-        ReachedAnswer::Refused(r) => WordAnswer::Refused(r),
-        ReachedAnswer::Got(reached) => {
-            let header = reached.header;
+    let reached = set?;
+let header = reached.header;
             set_count(f, header, reached.place)
-        }
-    }
 }
 
 // Where annotation k of the set is that was reached.
-fn place_of(f: &[u8], set: ReachedAnswer, k: u32) -> WordAnswer
+fn place_of(f: &[u8], set: Result<Reached, Refusal>, k: u32) -> Result<u32, Refusal>
     ensures { word_outcome result ≡ annotation_place f.now (reached_outcome set) k }
 {
-    match set {
-        ReachedAnswer::Refused(r) => WordAnswer::Refused(r),
-        ReachedAnswer::Got(reached) => {
-            let header = reached.header;
+    let reached = set?;
+let header = reached.header;
             set_number(f, header, reached.place, k)
-        }
-    }
 }
 
 // How many annotations class c has.
-pub fn class_annotation_count(f: &[u8], c: u32) -> WordAnswer
+pub fn class_annotation_count(f: &[u8], c: u32) -> Result<u32, Refusal>
     ensures { word_outcome result ≡ annotation_count f.now (class_set f.now c) }
 {
     count_of(f, class_set(f, c))
 }
 
 // Where annotation k of class c is.
-pub fn class_annotation_place(f: &[u8], c: u32, k: u32) -> WordAnswer
+pub fn class_annotation_place(f: &[u8], c: u32, k: u32) -> Result<u32, Refusal>
     ensures { word_outcome result ≡ annotation_place f.now (class_set f.now c) k }
 {
     place_of(f, class_set(f, c), k)
 }
 
 // How many annotations field entry e of class c has.
-pub fn field_annotation_count(f: &[u8], c: u32, e: u32) -> WordAnswer
+pub fn field_annotation_count(f: &[u8], c: u32, e: u32) -> Result<u32, Refusal>
     ensures { word_outcome result ≡ annotation_count f.now (entry_set f.now c 0 e) }
 {
     count_of(f, entry_set(f, c, 0, e))
 }
 
 // Where annotation k of field entry e of class c is.
-pub fn field_annotation_place(f: &[u8], c: u32, e: u32, k: u32) -> WordAnswer
+pub fn field_annotation_place(f: &[u8], c: u32, e: u32, k: u32) -> Result<u32, Refusal>
     ensures { word_outcome result ≡ annotation_place f.now (entry_set f.now c 0 e) k }
 {
     place_of(f, entry_set(f, c, 0, e), k)
 }
 
 // How many annotations method entry e of class c has.
-pub fn method_annotation_count(f: &[u8], c: u32, e: u32) -> WordAnswer
+pub fn method_annotation_count(f: &[u8], c: u32, e: u32) -> Result<u32, Refusal>
     ensures { word_outcome result ≡ annotation_count f.now (entry_set f.now c 1 e) }
 {
     count_of(f, entry_set(f, c, 1, e))
 }
 
 // Where annotation k of method entry e of class c is.
-pub fn method_annotation_place(f: &[u8], c: u32, e: u32, k: u32) -> WordAnswer
+pub fn method_annotation_place(f: &[u8], c: u32, e: u32, k: u32) -> Result<u32, Refusal>
     ensures { word_outcome result ≡ annotation_place f.now (entry_set f.now c 1 e) k }
 {
     place_of(f, entry_set(f, c, 1, e), k)
 }
 
 // How many annotations parameter p of parameter entry e of class c has.
-pub fn parameter_annotation_count(f: &[u8], c: u32, e: u32, p: u32) -> WordAnswer
+pub fn parameter_annotation_count(f: &[u8], c: u32, e: u32, p: u32) -> Result<u32, Refusal>
     ensures { word_outcome result ≡ annotation_count f.now (parameter_set f.now c e p) }
 {
     count_of(f, parameter_set(f, c, e, p))
 }
 
 // Where annotation k of parameter p of parameter entry e of class c is.
-pub fn parameter_annotation_place(f: &[u8], c: u32, e: u32, p: u32, k: u32) -> WordAnswer
+pub fn parameter_annotation_place(f: &[u8], c: u32, e: u32, p: u32, k: u32) -> Result<u32, Refusal>
     ensures { word_outcome result ≡ annotation_place f.now (parameter_set f.now c e p) k }
 {
     place_of(f, parameter_set(f, c, e, p), k)

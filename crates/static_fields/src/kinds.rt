@@ -8,45 +8,30 @@ ghost use Rattle.static_fields.specs.Pairing.{wrong_under, wrong_in, wrong_kind}
 ghost use Rattle.static_fields.specs.Stages.{fields_begin, values_begin, fields_from, values_from, kind_at, fits_at, wrong_from};
 ghost use Rattle.static_fields.specs.Answers.{maybe_wrong, begin_outcome, kind_outcome, fits_next_outcome};
 
-use super::{BeginAnswer, FitsAnswer, FitsNextAnswer, KindAnswer, WrongKindAnswer};
-use class_data::{CountsAnswer, DataAnswer};
-use class_ids::ClassAnswer;
-use class_members::{MemberFoundAnswer, MemberJudge};
-use encoded_value::{DEEPEST_VALUE, StepAnswer};
+use super::{Result<Read<u32>, Refusal>, Result<bool, Refusal>, Result<Read<bool>, Refusal>, Result<Read<u8>, Refusal>, Result<Option<WrongKind>, Refusal>};
+use class_members::MemberJudge;
+use encoded_value::DEEPEST_VALUE;
 use frame::Frame;
 use header::Header;
-use leb128::LebAnswer;
-use table_readers::OpenedAnswer;
-use value_bodies::BodySizeAnswer;
-use value_heads::{HeadByteAnswer, Walk};
+use value_heads::Walk;
+use refusal::{Read, Refusal};
 
 // How many static fields class data has, and where they begin: the whole first.
-fn fields_begin(s: &[u8], frame: Frame, item: usize) -> BeginAnswer
+fn fields_begin(s: &[u8], frame: Frame, item: usize) -> Result<Read<u32>, Refusal>
     ensures { begin_outcome result ≡ fields_begin s.now frame item }
 {
-    match class_data::class_data_at(s, frame, item) {
-        DataAnswer::Refused(r) => BeginAnswer::Refused(r),
-        DataAnswer::Got { counts: _, end: _ } => match class_data::counts_at(s, item) {
-            CountsAnswer::Refused(r) => BeginAnswer::Refused(r),
-            CountsAnswer::Got { counts, next } => BeginAnswer::Got {
-                count: counts.statics,
-                from: next,
-            },
-        },
-    }
+    class_data::class_data_at(s, frame, item)?;
+let Read { value: counts, next } = class_data::counts_at(s, item)?;
+Ok(Read { value: counts.statics, next })
 }
 
 // The same of an array and its values.
-fn values_begin(s: &[u8], w: Walk, item: usize) -> BeginAnswer
+fn values_begin(s: &[u8], w: Walk, item: usize) -> Result<Read<u32>, Refusal>
     ensures { begin_outcome result ≡ values_begin s.now w item }
 {
-    match value_bodies::array_count(s, w, item) {
-        BodySizeAnswer::Refused(r) => BeginAnswer::Refused(r),
-        BodySizeAnswer::Got(count) => match leb128::uleb(s, item, item) {
-            LebAnswer::Refused(r) => BeginAnswer::Refused(r),
-            LebAnswer::Got { value: _, next } => BeginAnswer::Got { count, from: next },
-        },
-    }
+    let count = value_bodies::array_count(s, w, item)?;
+let Read { next, .. } = leb128::uleb(s, item, item)?;
+Ok(Read { value: count, next })
 }
 
 // What the values of an item are gone over with.
@@ -57,7 +42,7 @@ fn walk_in(header: Header, handles: u32, item: usize) -> Walk
 }
 
 // None where class data is absent.
-fn fields_from(f: &[u8], header: Header, at: u32) -> BeginAnswer
+fn fields_from(f: &[u8], header: Header, at: u32) -> Result<Read<u32>, Refusal>
     ensures { begin_outcome result ≡ fields_from f.now header at }
 {
     let place = at as usize;
@@ -65,10 +50,10 @@ fn fields_from(f: &[u8], header: Header, at: u32) -> BeginAnswer
         let s = header::up_to_end(f, header);
         return fields_begin(s, header::plain_frame(header), place);
     }
-    BeginAnswer::Got { count: 0, from: 0 }
+    Ok(Read { value: 0, next: 0 })
 }
 
-fn values_from(f: &[u8], header: Header, handles: u32, at: u32) -> BeginAnswer
+fn values_from(f: &[u8], header: Header, handles: u32, at: u32) -> Result<Read<u32>, Refusal>
     ensures { begin_outcome result ≡ values_from f.now header handles at }
 {
     let place = at as usize;
@@ -76,7 +61,7 @@ fn values_from(f: &[u8], header: Header, handles: u32, at: u32) -> BeginAnswer
         let s = header::up_to_end(f, header);
         return values_begin(s, walk_in(header, handles, place), place);
     }
-    BeginAnswer::Got { count: 0, from: 0 }
+    Ok(Read { value: 0, next: 0 })
 }
 
 // What the static fields of class data are judged by.
@@ -92,34 +77,23 @@ fn fields_judge(header: Header) -> MemberJudge
 }
 
 // The kind of the value at a place, and the place after it.
-fn kind_at(s: &[u8], w: Walk, at: usize) -> KindAnswer
+fn kind_at(s: &[u8], w: Walk, at: usize) -> Result<Read<u8>, Refusal>
     ensures { kind_outcome result ≡ kind_at s.now w at }
 {
-    match value_heads::head_at(s, w.item, at) {
-        HeadByteAnswer::Refused(r) => KindAnswer::Refused(r),
-        HeadByteAnswer::Got(head) => match encoded_value::value(s, w, at, DEEPEST_VALUE) {
-            StepAnswer::Refused(r) => KindAnswer::Refused(r),
-            StepAnswer::Next(next) => KindAnswer::Got {
-                kind: head % 32,
-                next,
-            },
-        },
-    }
+    let head = value_heads::head_at(s, w.item, at)?;
+let next = encoded_value::value(s, w, at, DEEPEST_VALUE)?;
+Ok(Read { value: head % 32, next })
 }
 
 // Does the value at a place fit field n.
-fn fits_at(f: &[u8], header: Header, handles: u32, values: u32, at: usize, n: u32) -> FitsNextAnswer
+fn fits_at(f: &[u8], header: Header, handles: u32, values: u32, at: usize, n: u32) -> Result<Read<bool>, Refusal>
     ensures { fits_next_outcome result ≡ fits_at f.now header handles values at n }
 {
     let s = header::up_to_end(f, header);
     let w = walk_in(header, handles, values as usize);
-    match kind_at(s, w, at) {
-        KindAnswer::Refused(r) => FitsNextAnswer::Refused(r),
-        KindAnswer::Got { kind, next } => match super::texts::fits_in(f, header, n, kind) {
-            FitsAnswer::Refused(r) => FitsNextAnswer::Refused(r),
-            FitsAnswer::Got(fits) => FitsNextAnswer::Got { fits, next },
-        },
-    }
+    let Read { value: kind, next } = kind_at(s, w, at)?;
+let fits = super::texts::fits_in(f, header, n, kind)?;
+Ok(Read { value: fits, next })
 }
 
 // Fields and values once more, side by side: the first value that does not fit its field.
@@ -132,7 +106,7 @@ fn wrong_from(
     from: usize,
     first: usize,
     count: u32,
-) -> WrongKindAnswer
+) -> Result<Option<WrongKind>, Refusal>
     ensures { maybe_wrong result ≡ wrong_from f.now header handles «data» values count (begin from) first 0 }
 {
     let s = header::up_to_end(f, header);
@@ -141,38 +115,19 @@ fn wrong_from(
     let mut base: u32 = 0;
     let mut later = false;
     let mut q = first;
-    let mut k: u32 = 0;
-    let mut left = count;
-    while 0 < left {
-        match class_members::member_found(s, judge, data as usize, base, later, p) {
-            MemberFoundAnswer::Refused(r) => {
-                return WrongKindAnswer::Refused(r);
-            }
-            MemberFoundAnswer::Got { member, next } => {
-                match fits_at(f, header, handles, values, q, member.index) {
-                    FitsNextAnswer::Refused(r) => {
-                        return WrongKindAnswer::Refused(r);
-                    }
-                    FitsNextAnswer::Got { fits, next: after } => {
-                        if fits {
+    for k in 0..count {
+        let Read { value: member, next } = class_members::member_found(s, judge, data as usize, base, later, p)?;
+let Read { value: fits, next: after } = fits_at(f, header, handles, values, q, member.index)?;
+if fits {
                             base = member.index;
                             p = next;
                             q = after;
                         } else {
-                            return WrongKindAnswer::Got {
-                                k,
-                                field: member.index,
-                            };
+                            return Ok(Some(WrongKind { k, field: member.index }));
                         }
-                    }
-                }
-            }
-        }
         later = true;
-        k += 1;
-        left -= 1;
     }
-    WrongKindAnswer::Absent
+    Ok(None)
 }
 
 // Class data and static values whole, 21, and then both once more.
@@ -183,46 +138,31 @@ fn wrong_under(
     c: u32,
     data: u32,
     values: u32,
-) -> WrongKindAnswer
+) -> Result<Option<WrongKind>, Refusal>
     ensures { maybe_wrong result ≡ wrong_under f.now header handles c «data» values }
 {
-    match fields_from(f, header, data) {
-        BeginAnswer::Refused(r) => WrongKindAnswer::Refused(r),
-        BeginAnswer::Got {
-            count: fields,
-            from,
-        } => match values_from(f, header, handles, values) {
-            BeginAnswer::Refused(r) => WrongKindAnswer::Refused(r),
-            BeginAnswer::Got { count, from: first } => {
-                if count <= fields {
+    let Read { value: fields, next: from } = fields_from(f, header, data)?;
+let Read { value: count, next: first } = values_from(f, header, handles, values)?;
+if count <= fields {
                     return wrong_from(f, header, handles, data, values, from, first, count);
                 }
-                WrongKindAnswer::Refused(refusal::too_many_values(super::pairs::class_place(
+                Err(refusal::too_many_values(super::pairs::class_place(
                     header, c,
                 )))
-            }
-        },
-    }
 }
 
-fn wrong_in(f: &[u8], header: Header, handles: u32, c: u32) -> WrongKindAnswer
+fn wrong_in(f: &[u8], header: Header, handles: u32, c: u32) -> Result<Option<WrongKind>, Refusal>
     ensures { maybe_wrong result ≡ wrong_in f.now c header handles }
 {
-    match table_readers::class_in(f, header, c) {
-        ClassAnswer::Refused(r) => WrongKindAnswer::Refused(r),
-        ClassAnswer::Got(found) => { wrong_under(f, header, handles, c, found.data, found.values) }
-    }
+    let found = table_readers::class_in(f, header, c)?;
+wrong_under(f, header, handles, c, found.data, found.values)
 }
 
 // The first static field of class c whose value has the wrong kind.
-pub fn wrong_kind(f: &[u8], c: u32) -> WrongKindAnswer
+pub fn wrong_kind(f: &[u8], c: u32) -> Result<Option<WrongKind>, Refusal>
     ensures { maybe_wrong result ≡ wrong_kind f.now c }
 {
-    match table_readers::open(f) {
-        OpenedAnswer::Refused(r) => WrongKindAnswer::Refused(r),
-        OpenedAnswer::Got(o) => {
-            let header = o.header;
+    let o = table_readers::open(f)?;
+let header = o.header;
             wrong_in(f, header, o.handles, c)
-        }
-    }
 }

@@ -15,48 +15,17 @@ pub use pairs::static_field;
 // A static field with its value; none where the class has no class data. `stored` is false where the value is past the list, and so the zero, false or null that
 // the text of the field's type calls for.
 #[derive(Clone, Copy)]
-pub enum StaticFieldAnswer {
-    Absent,
-    Got {
-        field: u32,
-        flags: u32,
-        stored: bool,
-        value: Value,
-    },
-    Refused(Refusal),
+pub struct StaticField {
+    pub field: u32,
+    pub flags: u32,
+    pub stored: bool,
+    pub value: Value,
 }
 
 // The first static field whose value has the wrong kind, by its number in the list and the field's; none where every kind fits.
 #[derive(Clone, Copy)]
-pub enum WrongKindAnswer {
-    Absent,
-    Got { k: u32, field: u32 },
-    Refused(Refusal),
+pub struct WrongKind {
+    pub k: u32,
+    pub field: u32,
 }
 
-#[derive(Clone, Copy)]
-pub enum FitsAnswer {
-    Got(bool),
-    Refused(Refusal),
-}
-
-// A value's kind, and the place after it.
-#[derive(Clone, Copy)]
-pub enum KindAnswer {
-    Got { kind: u8, next: usize },
-    Refused(Refusal),
-}
-
-// Whether a value fits its field, and the place after it.
-#[derive(Clone, Copy)]
-pub enum FitsNextAnswer {
-    Got { fits: bool, next: usize },
-    Refused(Refusal),
-}
-
-// How many there are, and where the first begins.
-#[derive(Clone, Copy)]
-pub enum BeginAnswer {
-    Got { count: u32, from: usize },
-    Refused(Refusal),
-}

@@ -7,12 +7,9 @@ ghost use Rattle.static_fields.specs.Stages.{valued, pair_of, field_some};
 ghost use Rattle.static_fields.specs.Answers.{maybe_field};
 
 use super::StaticFieldAnswer;
-use class_data::{DataAnswer, MemberAnswer};
-use class_ids::ClassAnswer;
 use class_members::Member;
 use header::Header;
-use table_readers::OpenedAnswer;
-use value_bodies::{BodySizeAnswer, PickedAnswer};
+use refusal::{Read, Refusal};
 
 // Where the record of class c is.
 pub fn class_place(header: Header, c: u32) -> usize
@@ -23,18 +20,11 @@ pub fn class_place(header: Header, c: u32) -> usize
 }
 
 // A value that was found, as field m's.
-fn valued_as(m: Member, stored: bool, found: PickedAnswer) -> StaticFieldAnswer
+fn valued_as(m: Member, stored: bool, found: Result<Value, Refusal>) -> Result<Option<StaticField>, Refusal>
     ensures { maybe_field result ≡ valued m stored (picked_outcome found) }
 {
-    match found {
-        PickedAnswer::Refused(r) => StaticFieldAnswer::Refused(r),
-        PickedAnswer::Got(value) => StaticFieldAnswer::Got {
-            field: m.index,
-            flags: m.flags,
-            stored,
-            value,
-        },
-    }
+    let value = found?;
+Ok(Some(StaticField { field: m.index, flags: m.flags, stored, value }))
 }
 
 // Static field k where so many values are stored: value k, or past the list what the text of the field's type calls for.
@@ -46,22 +36,18 @@ fn pair_of(
     values: u32,
     k: u32,
     count: u32,
-) -> StaticFieldAnswer
+) -> Result<Option<StaticField>, Refusal>
     ensures { maybe_field result ≡ pair_of f.now header handles «data» values k count }
 {
     let s = header::up_to_end(f, header);
     let frame = header::plain_frame(header);
-    match class_data::member_at(s, frame, data as usize, 0, k) {
-        MemberAnswer::Refused(r) => StaticFieldAnswer::Refused(r),
-        MemberAnswer::Got(m) => {
-            if k < count {
+    let m = class_data::member_at(s, frame, data as usize, 0, k)?;
+if k < count {
                 let found = value_readers::value_in(f, header, handles, values, k);
                 return valued_as(m, true, found);
             }
             let unset = super::texts::default_in(f, header, m.index);
             valued_as(m, false, unset)
-        }
-    }
 }
 
 // Class data whole, 7 for the field, static values whole, 21, and then the pair.
@@ -73,30 +59,22 @@ fn field_some(
     k: u32,
     data: u32,
     values: u32,
-) -> StaticFieldAnswer
+) -> Result<Option<StaticField>, Refusal>
     requires { 0 < «data» }
     ensures { maybe_field result ≡ field_some f.now header handles c k «data» values }
 {
     let s = header::up_to_end(f, header);
     let frame = header::plain_frame(header);
-    match class_data::class_data_at(s, frame, data as usize) {
-        DataAnswer::Refused(r) => StaticFieldAnswer::Refused(r),
-        DataAnswer::Got { counts, end: _ } => {
-            let fields = counts.statics;
+    let Read { value: counts, .. } = class_data::class_data_at(s, frame, data as usize)?;
+let fields = counts.statics;
             if fields <= k {
-                return StaticFieldAnswer::Refused(refusal::not_there());
+                return Err(refusal::not_there());
             }
-            match value_readers::values_in(f, header, handles, values) {
-                BodySizeAnswer::Refused(r) => StaticFieldAnswer::Refused(r),
-                BodySizeAnswer::Got(count) => {
-                    if count <= fields {
+            let count = value_readers::values_in(f, header, handles, values)?;
+if count <= fields {
                         return pair_of(f, header, handles, data, values, k, count);
                     }
-                    StaticFieldAnswer::Refused(refusal::too_many_values(class_place(header, c)))
-                }
-            }
-        }
-    }
+                    Err(refusal::too_many_values(class_place(header, c)))
 }
 
 // A class without class data has none.
@@ -108,35 +86,27 @@ fn field_below(
     k: u32,
     data: u32,
     values: u32,
-) -> StaticFieldAnswer
+) -> Result<Option<StaticField>, Refusal>
     ensures { maybe_field result ≡ present «data» (field_under f.now header handles c k «data» values) }
 {
     if data <= 0 {
-        return StaticFieldAnswer::Absent;
+        return Ok(None);
     }
     field_some(f, header, handles, c, k, data, values)
 }
 
-fn field_in(f: &[u8], header: Header, handles: u32, c: u32, k: u32) -> StaticFieldAnswer
+fn field_in(f: &[u8], header: Header, handles: u32, c: u32, k: u32) -> Result<Option<StaticField>, Refusal>
     ensures { maybe_field result ≡ field_in f.now c k header handles }
 {
-    match table_readers::class_in(f, header, c) {
-        ClassAnswer::Refused(r) => StaticFieldAnswer::Refused(r),
-        ClassAnswer::Got(found) => {
-            field_below(f, header, handles, c, k, found.data, found.values)
-        }
-    }
+    let found = table_readers::class_in(f, header, c)?;
+field_below(f, header, handles, c, k, found.data, found.values)
 }
 
 // Static field k of class c, with its value.
-pub fn static_field(f: &[u8], c: u32, k: u32) -> StaticFieldAnswer
+pub fn static_field(f: &[u8], c: u32, k: u32) -> Result<Option<StaticField>, Refusal>
     ensures { maybe_field result ≡ static_field f.now c k }
 {
-    match table_readers::open(f) {
-        OpenedAnswer::Refused(r) => StaticFieldAnswer::Refused(r),
-        OpenedAnswer::Got(o) => {
-            let header = o.header;
+    let o = table_readers::open(f)?;
+let header = o.header;
             field_in(f, header, o.handles, c, k)
-        }
-    }
 }

@@ -9,63 +9,42 @@ ghost use Rattle.static_fields.specs.Answers.{fits_outcome};
 
 use super::FitsAnswer;
 use header::Header;
-use ids::{IndexAnswer, MemberIdAnswer};
-use text::TextAnswer;
-use value_bodies::PickedAnswer;
+use refusal::Refusal;
+use text::TextPlace;
 
 // The string that is the type of field n: the field's record, then the type's.
-fn type_string(f: &[u8], header: Header, n: u32) -> IndexAnswer
+fn type_string(f: &[u8], header: Header, n: u32) -> Result<u32, Refusal>
     ensures { index_outcome result ≡ type_string f.now header n }
 {
     let types = header.types;
     let fields = header.fields;
     let frame = header::plain_frame(header);
-    match ids::member_at(f, frame, types.count, fields.offset, n) {
-        MemberIdAnswer::Refused(r) => IndexAnswer::Refused(r),
-        MemberIdAnswer::Got(m) => ids::type_at(f, frame, types.offset, m.kind),
-    }
+    let m = ids::member_at(f, frame, types.count, fields.offset, n)?;
+ids::type_at(f, frame, types.offset, m.kind)
 }
 
 // Where its text lies.
-fn type_text(f: &[u8], header: Header, n: u32) -> TextAnswer
+fn type_text(f: &[u8], header: Header, n: u32) -> Result<TextPlace, Refusal>
     ensures { text_outcome result ≡ type_extent f.now header n }
 {
-    match type_string(f, header, n) {
-        IndexAnswer::Refused(r) => TextAnswer::Refused(r),
-        IndexAnswer::Got(t) => string_ids::string_at(f, header, t),
-    }
+    let t = type_string(f, header, n)?;
+string_ids::string_at(f, header, t)
 }
 
 // The zero, false or null of field n.
-pub fn default_in(f: &[u8], header: Header, n: u32) -> PickedAnswer
+pub fn default_in(f: &[u8], header: Header, n: u32) -> Result<Value, Refusal>
     ensures { picked_outcome result ≡ default_of (type_text f.now header) n }
 {
-    match type_text(f, header, n) {
-        TextAnswer::Refused(r) => PickedAnswer::Refused(r),
-        TextAnswer::Got {
-            start,
-            length,
-            units: _,
-        } => {
-            let s = header::up_to_end(f, header);
-            PickedAnswer::Got(static_kinds::default_of(word::bytes_at(s, start, length)))
-        }
-    }
+    let TextPlace { start, length, .. } = type_text(f, header, n)?;
+let s = header::up_to_end(f, header);
+            Ok(static_kinds::default_of(word::bytes_at(s, start, length)))
 }
 
 // May field n have a value of this kind.
-pub fn fits_in(f: &[u8], header: Header, n: u32, kind: u8) -> FitsAnswer
+pub fn fits_in(f: &[u8], header: Header, n: u32, kind: u8) -> Result<bool, Refusal>
     ensures { fits_outcome result ≡ fits_of (type_text f.now header) n kind }
 {
-    match type_text(f, header, n) {
-        TextAnswer::Refused(r) => FitsAnswer::Refused(r),
-        TextAnswer::Got {
-            start,
-            length,
-            units: _,
-        } => {
-            let s = header::up_to_end(f, header);
-            FitsAnswer::Got(static_kinds::is_fitting(word::bytes_at(s, start, length), kind))
-        }
-    }
+    let TextPlace { start, length, .. } = type_text(f, header, n)?;
+let s = header::up_to_end(f, header);
+            Ok(static_kinds::is_fitting(word::bytes_at(s, start, length), kind))
 }

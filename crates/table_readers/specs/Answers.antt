@@ -1,20 +1,16 @@
 -- What the answers of the code say.
-use Rattle.std.specs.Prelude.{ℕ}
-use Rattle.refusal.specs.Outcome.{Outcome, answer, refused}
+use Rattle.std.specs.Prelude.{ℕ, Result}
+use Rattle.refusal.specs.Outcome.{Outcome}
 use Rattle.map_list.specs.declared.MapEntry.{MapEntry}
 use Rattle.table_readers.specs.declared.Opened.{Opened}
-use Rattle.table_readers.specs.declared.OpenedAnswer as O
-use Rattle.table_readers.specs.declared.CountAnswer as C
-use Rattle.table_readers.specs.declared.MapEntryAnswer as E
+use Rattle.refusal.specs.Answers.{outcome}
+use Rattle.refusal.specs.declared.Refusal.{Refusal}
 
-abbrev pub count_outcome : C.CountAnswer → Outcome ℕ
-count_outcome (C.TheVariants.Got n) = answer n
-count_outcome (C.TheVariants.Refused r) = refused r
+abbrev pub count_outcome : Result ℕ Refusal → Outcome ℕ
+count_outcome = outcome (λ (n : ℕ). n)
 
-abbrev pub entry_outcome : E.MapEntryAnswer → Outcome MapEntry
-entry_outcome (E.TheVariants.Got e) = answer e
-entry_outcome (E.TheVariants.Refused r) = refused r
+abbrev pub entry_outcome : Result MapEntry Refusal → Outcome MapEntry
+entry_outcome = outcome (λ (e : MapEntry). e)
 
-abbrev pub opened_outcome : O.OpenedAnswer → Outcome Opened
-opened_outcome (O.TheVariants.Got o) = answer o
-opened_outcome (O.TheVariants.Refused r) = refused r
+abbrev pub opened_outcome : Result Opened Refusal → Outcome Opened
+opened_outcome = outcome (λ (o : Opened). o)

@@ -18,18 +18,6 @@ pub use lists::{interface, interface_count, parameter, parameter_count};
 pub use strings::{find_string, string, string_bytes};
 pub use tables::{class, class_in, field, handle, method, proto, type_name};
 
-#[derive(Clone, Copy)]
-pub enum CountAnswer {
-    Got(u32),
-    Refused(Refusal),
-}
-
-#[derive(Clone, Copy)]
-pub enum MapEntryAnswer {
-    Got(MapEntry),
-    Refused(Refusal),
-}
-
 // A file's header, and how many method handles its map gives.
 #[derive(Clone, Copy)]
 pub struct Opened {
@@ -37,8 +25,3 @@ pub struct Opened {
     pub handles: u32,
 }
 
-#[derive(Clone, Copy)]
-pub enum OpenedAnswer {
-    Got(Opened),
-    Refused(Refusal),
-}

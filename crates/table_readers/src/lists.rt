@@ -3,13 +3,12 @@ ghost use Rattle.std.specs.Prelude.{◌≡◌};
 ghost use Rattle.type_list.specs.Answers.{count_outcome, type_outcome};
 ghost use Rattle.table_readers.specs.Lists.{list_type, parameters_in, parameter_count, parameter_in, parameter, interfaces_in, interface_count, interface_in, interface};
 
-use class_ids::ClassAnswer;
-use header::{Header, HeaderAnswer};
-use ids::ProtoAnswer;
-use type_list::{TypeAnswer, TypeCountAnswer, TypeListJudge};
+use header::Header;
+use type_list::TypeListJudge;
+use refusal::Refusal;
 
 // Type k of the list at an offset.
-fn list_type(f: &[u8], header: Header, at: u32, k: u32) -> TypeAnswer
+fn list_type(f: &[u8], header: Header, at: u32, k: u32) -> Result<u32, Refusal>
     ensures { type_outcome result ≡ list_type f.now header at k }
 {
     let order = header.order;
@@ -25,81 +24,65 @@ fn list_type(f: &[u8], header: Header, at: u32, k: u32) -> TypeAnswer
             k,
         );
     }
-    TypeAnswer::Refused(refusal::not_there())
+    Err(refusal::not_there())
 }
 
 // How many parameters proto n has.
-pub fn parameter_count(f: &[u8], n: u32) -> TypeCountAnswer
+pub fn parameter_count(f: &[u8], n: u32) -> Result<u32, Refusal>
     ensures { count_outcome result ≡ parameter_count f.now n }
 {
-    match header::header_of(f) {
-        HeaderAnswer::Refused(r) => TypeCountAnswer::Refused(r),
-        HeaderAnswer::Got(header) => parameters_in(f, header, n),
-    }
+    let header = header::header_of(f)?;
+parameters_in(f, header, n)
 }
 
-fn parameters_in(f: &[u8], header: Header, n: u32) -> TypeCountAnswer
+fn parameters_in(f: &[u8], header: Header, n: u32) -> Result<u32, Refusal>
     ensures { count_outcome result ≡ parameters_in f.now n header }
 {
-    match super::tables::proto_in(f, header, n) {
-        ProtoAnswer::Refused(r) => TypeCountAnswer::Refused(r),
-        ProtoAnswer::Got(p) => type_list::list_count(f, header, p.parameters),
-    }
+    let p = super::tables::proto_in(f, header, n)?;
+type_list::list_count(f, header, p.parameters)
 }
 
 // The type of parameter k of proto n.
-pub fn parameter(f: &[u8], n: u32, k: u32) -> TypeAnswer
+pub fn parameter(f: &[u8], n: u32, k: u32) -> Result<u32, Refusal>
     ensures { type_outcome result ≡ parameter f.now n k }
 {
-    match header::header_of(f) {
-        HeaderAnswer::Refused(r) => TypeAnswer::Refused(r),
-        HeaderAnswer::Got(header) => parameter_in(f, header, n, k),
-    }
+    let header = header::header_of(f)?;
+parameter_in(f, header, n, k)
 }
 
-fn parameter_in(f: &[u8], header: Header, n: u32, k: u32) -> TypeAnswer
+fn parameter_in(f: &[u8], header: Header, n: u32, k: u32) -> Result<u32, Refusal>
     ensures { type_outcome result ≡ parameter_in f.now n k header }
 {
-    match super::tables::proto_in(f, header, n) {
-        ProtoAnswer::Refused(r) => TypeAnswer::Refused(r),
-        ProtoAnswer::Got(p) => list_type(f, header, p.parameters, k),
-    }
+    let p = super::tables::proto_in(f, header, n)?;
+list_type(f, header, p.parameters, k)
 }
 
 // How many interfaces class n has.
-pub fn interface_count(f: &[u8], n: u32) -> TypeCountAnswer
+pub fn interface_count(f: &[u8], n: u32) -> Result<u32, Refusal>
     ensures { count_outcome result ≡ interface_count f.now n }
 {
-    match header::header_of(f) {
-        HeaderAnswer::Refused(r) => TypeCountAnswer::Refused(r),
-        HeaderAnswer::Got(header) => interfaces_in(f, header, n),
-    }
+    let header = header::header_of(f)?;
+interfaces_in(f, header, n)
 }
 
-fn interfaces_in(f: &[u8], header: Header, n: u32) -> TypeCountAnswer
+fn interfaces_in(f: &[u8], header: Header, n: u32) -> Result<u32, Refusal>
     ensures { count_outcome result ≡ interfaces_in f.now n header }
 {
-    match super::tables::class_in(f, header, n) {
-        ClassAnswer::Refused(r) => TypeCountAnswer::Refused(r),
-        ClassAnswer::Got(c) => type_list::list_count(f, header, c.interfaces),
-    }
+    let c = super::tables::class_in(f, header, n)?;
+type_list::list_count(f, header, c.interfaces)
 }
 
 // The type of interface k of class n.
-pub fn interface(f: &[u8], n: u32, k: u32) -> TypeAnswer
+pub fn interface(f: &[u8], n: u32, k: u32) -> Result<u32, Refusal>
     ensures { type_outcome result ≡ interface f.now n k }
 {
-    match header::header_of(f) {
-        HeaderAnswer::Refused(r) => TypeAnswer::Refused(r),
-        HeaderAnswer::Got(header) => interface_in(f, header, n, k),
-    }
+    let header = header::header_of(f)?;
+interface_in(f, header, n, k)
 }
 
-fn interface_in(f: &[u8], header: Header, n: u32, k: u32) -> TypeAnswer
+fn interface_in(f: &[u8], header: Header, n: u32, k: u32) -> Result<u32, Refusal>
     ensures { type_outcome result ≡ interface_in f.now n k header }
 {
-    match super::tables::class_in(f, header, n) {
-        ClassAnswer::Refused(r) => TypeAnswer::Refused(r),
-        ClassAnswer::Got(c) => list_type(f, header, c.interfaces, k),
-    }
+    let c = super::tables::class_in(f, header, n)?;
+list_type(f, header, c.interfaces, k)
 }

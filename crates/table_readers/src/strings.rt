@@ -4,28 +4,26 @@ ghost use Rattle.text.specs.Answers.{text_outcome};
 ghost use Rattle.string_ids.specs.Answers.{lookup_outcome};
 ghost use Rattle.table_readers.specs.Strings.{string_in, string_extent_of, bytes_of, string_number, find_string};
 
-use header::{Header, HeaderAnswer};
-use string_ids::LookupAnswer;
-use text::TextAnswer;
+use header::Header;
+use refusal::Refusal;
+use text::TextPlace;
 
 // Where the text of string n lies, and how many units it has.
-pub fn string(f: &[u8], n: u32) -> TextAnswer
+pub fn string(f: &[u8], n: u32) -> Result<TextPlace, Refusal>
     ensures { text_outcome result ≡ string_extent_of f.now n }
 {
-    match header::header_of(f) {
-        HeaderAnswer::Refused(r) => TextAnswer::Refused(r),
-        HeaderAnswer::Got(header) => string_in(f, header, n),
-    }
+    let header = header::header_of(f)?;
+string_in(f, header, n)
 }
 
-fn string_in(f: &[u8], header: Header, n: u32) -> TextAnswer
+fn string_in(f: &[u8], header: Header, n: u32) -> Result<TextPlace, Refusal>
     ensures { text_outcome result ≡ string_in f.now n header }
 {
     let strings = header.strings;
     if n < strings.count {
         return string_ids::string_at(f, header, n);
     }
-    TextAnswer::Refused(refusal::not_there())
+    Err(refusal::not_there())
 }
 
 // The bytes of string n, none where it is refused.
@@ -33,21 +31,15 @@ pub fn string_bytes(f: &[u8], n: u32) -> &[u8]
     ensures { result.now ≡ bytes_of (string_number f.now n) }
 {
     match string(f, n) {
-        TextAnswer::Refused(_) => &f[0..0],
-        TextAnswer::Got {
-            start,
-            length,
-            units: _,
-        } => word::bytes_at(f, start, length),
+        Err(_) => &f[0..0],
+        Ok(TextPlace { start, length, units: _ }) => word::bytes_at(f, start, length),
     }
 }
 
 // The number of the string that has those bytes, or none.
-pub fn find_string(f: &[u8], text: &[u8]) -> LookupAnswer
+pub fn find_string(f: &[u8], text: &[u8]) -> Result<Option<u32>, Refusal>
     ensures { lookup_outcome result ≡ find_string f.now text.now }
 {
-    match header::header_of(f) {
-        HeaderAnswer::Refused(r) => LookupAnswer::Refused(r),
-        HeaderAnswer::Got(header) => string_ids::look_up(f, header, text),
-    }
+    let header = header::header_of(f)?;
+string_ids::look_up(f, header, text)
 }

@@ -1,20 +1,19 @@
 -- What the answers of the code say.
-use Rattle.std.specs.Prelude.{ℕ}
-use Rattle.refusal.specs.Outcome.{Outcome, answer, refused}
+use Rattle.std.specs.Prelude.{ℕ, Result}
+use Rattle.refusal.specs.Outcome.{Outcome}
 use Rattle.refusal.specs.Rows.{Found, Next, more}
 use Rattle.text.specs.Text.{Extent}
-use Rattle.text.specs.declared.WideAnswer as W
-use Rattle.text.specs.declared.UnitCountAnswer as C
-use Rattle.text.specs.declared.TextAnswer as T
+use Rattle.refusal.specs.Answers.{outcome}
+use Rattle.refusal.specs.declared.Refusal.{Refusal}
+use Rattle.refusal.specs.declared.Read as R
+use Rattle.text.specs.declared.UnitCount as U
+use Rattle.text.specs.declared.TextPlace as T
 
-abbrev pub wide_outcome : W.WideAnswer → Outcome (Next ℕ ℕ)
-wide_outcome (W.TheVariants.Got u n) = answer (more u n)
-wide_outcome (W.TheVariants.Refused r) = refused r
+abbrev pub wide_outcome : Result (R.Read ℕ) Refusal → Outcome (Next ℕ ℕ)
+wide_outcome = outcome (λ (x : R.Read ℕ). more x.value x.next)
 
-abbrev pub count_outcome : C.UnitCountAnswer → Outcome (Found ℕ ℕ)
-count_outcome (C.TheVariants.Got n z) = answer (record { item = n; next = z })
-count_outcome (C.TheVariants.Refused r) = refused r
+abbrev pub count_outcome : Result U.UnitCount Refusal → Outcome (Found ℕ ℕ)
+count_outcome = outcome (λ (x : U.UnitCount). record { item = x.units; next = x.zero })
 
-abbrev pub text_outcome : T.TextAnswer → Outcome Extent
-text_outcome (T.TheVariants.Got p n u) = answer (record { start = p; length = n; units = u })
-text_outcome (T.TheVariants.Refused r) = refused r
+abbrev pub text_outcome : Result T.TextPlace Refusal → Outcome Extent
+text_outcome = outcome (λ (x : T.TextPlace). record { start = x.start; length = x.length; units = x.units })

@@ -7,84 +7,82 @@ ghost use Rattle.text.specs.Text.{two_at, three_at, wide_at, count_at, extent_at
 ghost use Rattle.text.specs.Singles.{FewSingles};
 ghost use Rattle.text.specs.Answers.{wide_outcome, count_outcome, text_outcome};
 
-use leb128::LebAnswer;
-use refusal::Refusal;
-
-// A unit whose form has two or three bytes, and the place after it.
-#[derive(Clone, Copy)]
-pub enum WideAnswer {
-    Got { unit: u32, next: usize },
-    Refused(Refusal),
-}
+use refusal::{Read, Refusal};
 
 // How many units a text has, and the place of its zero byte.
 #[derive(Clone, Copy)]
-pub enum UnitCountAnswer {
-    Got { units: usize, zero: usize },
-    Refused(Refusal),
+pub struct UnitCount {
+    pub units: usize,
+    pub zero: usize,
 }
 
 // Where a text's bytes begin, how many there are without the zero, and how many units.
 #[derive(Clone, Copy)]
-pub enum TextAnswer {
-    Got {
-        start: usize,
-        length: usize,
-        units: u32,
-    },
-    Refused(Refusal),
+pub struct TextPlace {
+    pub start: usize,
+    pub length: usize,
+    pub units: u32,
 }
 
 // A form of two bytes: 9 where the second is not there, 14 where it does not follow or one byte is enough.
-fn two_at(s: &[u8], item: usize, p: usize) -> WideAnswer
+fn two_at(s: &[u8], item: usize, p: usize) -> Result<Read<u32>, Refusal>
     requires { p < length s.now }
     ensures { wide_outcome result ≡ two_at s.now item p }
 {
     if s.len() - p < 2 {
-        return WideAnswer::Refused(refusal::runs_past(item));
+        return Err(refusal::runs_past(item));
     }
     let a = s[p] as u32;
     let b = s[p + 1] as u32;
     if b / 64 != 2 {
-        return WideAnswer::Refused(refusal::malformed_text(item));
+        return Err(refusal::malformed_text(item));
     }
     let unit = a % 32 * 64 + b % 64;
     if 0x80 <= unit {
-        return WideAnswer::Got { unit, next: p + 2 };
+        return Ok(Read {
+            value: unit,
+            next: p + 2,
+        });
     }
     // U+0000 is c0 80
     if unit == 0 {
-        return WideAnswer::Got { unit, next: p + 2 };
+        return Ok(Read {
+            value: unit,
+            next: p + 2,
+        });
     }
-    WideAnswer::Refused(refusal::malformed_text(item))
+    Err(refusal::malformed_text(item))
 }
 
 // A form of three bytes: 9 where one is not there, 14 where one does not follow or two bytes are enough.
-fn three_at(s: &[u8], item: usize, p: usize) -> WideAnswer
+fn three_at(s: &[u8], item: usize, p: usize) -> Result<Read<u32>, Refusal>
     requires { p < length s.now }
     ensures { wide_outcome result ≡ three_at s.now item p }
 {
     if s.len() - p < 3 {
-        return WideAnswer::Refused(refusal::runs_past(item));
+        return Err(refusal::runs_past(item));
     }
     let a = s[p] as u32;
     let b = s[p + 1] as u32;
     if b / 64 != 2 {
-        return WideAnswer::Refused(refusal::malformed_text(item));
+        return Err(refusal::malformed_text(item));
     }
     let c = s[p + 2] as u32;
     if c / 64 != 2 {
-        return WideAnswer::Refused(refusal::malformed_text(item));
+        return Err(refusal::malformed_text(item));
     }
     let unit = a % 16 * 4096 + b % 64 * 64 + c % 64;
     if unit < 0x800 {
-        return WideAnswer::Refused(refusal::malformed_text(item));
+        return Err(refusal::malformed_text(item));
     }
-    WideAnswer::Got { unit, next: p + 3 }
+    Ok(Read {
+        value: unit,
+        next: p + 3,
+    })
 }
 
 // A form of two or three bytes, by its first.
-fn wide_at(s: &[u8], item: usize, p: usize) -> WideAnswer
+fn wide_at(s: &[u8], item: usize, p: usize) -> Result<Read<u32>, Refusal>
     requires { p < length s.now }
     ensures { wide_outcome result ≡ wide_at s.now item p }
 {
@@ -94,7 +92,7 @@ fn wide_at(s: &[u8], item: usize, p: usize) -> WideAnswer
     if s[p] / 16 == 14 {
         return three_at(s, item, p);
     }
-    WideAnswer::Refused(refusal::malformed_text(item))
+    Err(refusal::malformed_text(item))
 }
 
 // How many of the eight bytes from a place on are forms of one byte, up to the first that is none; 0 where the slice has no eight bytes more. The loop has a fixed
@@ -121,7 +119,7 @@ fn singles_at(s: &[u8], p: usize) -> usize
 }
 
 // The units from `start` up to the zero byte, counted: forms of one byte by eight, and then the form behind them.
-fn count_at(s: &[u8], item: usize, start: usize) -> UnitCountAnswer
+fn count_at(s: &[u8], item: usize, start: usize) -> Result<UnitCount, Refusal>
     ensures { count_outcome result ≡ count_at s.now item start }
 {
     let mut p = start;
@@ -139,40 +137,28 @@ fn count_at(s: &[u8], item: usize, start: usize) -> UnitCountAnswer
                 units += 1;
                 continue;
             }
-            return UnitCountAnswer::Got { units, zero: p };
+            return Ok(UnitCount { units, zero: p });
         }
-        match wide_at(s, item, p) {
-            WideAnswer::Refused(r) => {
-                return UnitCountAnswer::Refused(r);
-            }
-            WideAnswer::Got { unit: _, next } => {
-                p = next;
-                units += 1;
-            }
-        }
+        let Read { next, .. } = wide_at(s, item, p)?;
+        p = next;
+        units += 1;
     }
-    UnitCountAnswer::Refused(refusal::runs_past(item))
+    Err(refusal::runs_past(item))
 }
 
 // A string data item: its length, its units, and the length compared at the zero byte.
-pub fn string_at(s: &[u8], item: usize) -> TextAnswer
+pub fn string_at(s: &[u8], item: usize) -> Result<TextPlace, Refusal>
     ensures { text_outcome result ≡ extent_at s.now item }
 {
-    match leb128::uleb(s, item, item) {
-        LebAnswer::Refused(r) => TextAnswer::Refused(r),
-        LebAnswer::Got { value, next } => match count_at(s, item, next) {
-            UnitCountAnswer::Refused(r) => TextAnswer::Refused(r),
-            UnitCountAnswer::Got { units, zero } => {
-                let length = zero - next;
-                if units != value as usize {
-                    return TextAnswer::Refused(refusal::malformed_text(item));
-                }
-                TextAnswer::Got {
-                    start: next,
-                    length,
-                    units: units as u32,
-                }
-            }
-        },
+    let Read { value, next } = leb128::uleb(s, item, item)?;
+    let UnitCount { units, zero } = count_at(s, item, next)?;
+    let length = zero - next;
+    if units != value as usize {
+        return Err(refusal::malformed_text(item));
     }
+    Ok(TextPlace {
+        start: next,
+        length,
+        units: units as u32,
+    })
 }

@@ -8,7 +8,7 @@ ghost use Rattle.type_list.specs.Answers.{count_outcome, type_outcome};
 ghost use Rattle.refusal.specs.Answers.{checked_outcome};
 
 use header::Header;
-use refusal::{CheckAnswer, Refusal};
+use refusal::Refusal;
 use word::Endian;
 
 // What a list is read against: the byte order, how many types there are, and the list's own place.
@@ -17,18 +17,6 @@ pub struct TypeListJudge {
     pub order: Endian,
     pub types: u32,
     pub at: usize,
-}
-
-#[derive(Clone, Copy)]
-pub enum TypeCountAnswer {
-    Got(u32),
-    Refused(Refusal),
-}
-
-#[derive(Clone, Copy)]
-pub enum TypeAnswer {
-    Got(u32),
-    Refused(Refusal),
 }
 
 // Entry k of the list.
@@ -44,61 +32,51 @@ fn entry_number(s: &[u8], j: TypeListJudge, k: u32) -> u32
 }
 
 // All entries in turn.
-fn all(s: &[u8], j: TypeListJudge, count: u32) -> CheckAnswer
+fn all(s: &[u8], j: TypeListJudge, count: u32) -> Result<(), Refusal>
     ensures { checked_outcome result ≡ all_at s.now j count }
 {
-    let mut k: u32 = 0;
-    let mut left = count;
-    while 0 < left {
+    for k in 0..count {
         let t = entry_number(s, j, k);
         if j.types <= t {
-            return CheckAnswer::Refused(refusal::wrong_index(j.at));
+            return Err(refusal::wrong_index(j.at));
         }
-        k += 1;
-        left -= 1;
     }
-    CheckAnswer::Accepted
+    Ok(())
 }
 
 // How many entries a list has that obeys its rules: its length first, then its entries.
-fn count_at(s: &[u8], j: TypeListJudge) -> TypeCountAnswer
+fn count_at(s: &[u8], j: TypeListJudge) -> Result<u32, Refusal>
     ensures { count_outcome result ≡ count_at s.now j }
 {
     let order = j.order;
     let at = j.at;
     if s.len() < at {
-        return TypeCountAnswer::Refused(refusal::runs_past(at));
+        return Err(refusal::runs_past(at));
     }
     if s.len() - at < 4 {
-        return TypeCountAnswer::Refused(refusal::runs_past(at));
+        return Err(refusal::runs_past(at));
     }
     let count = word::u32_at(s, at, order);
     if s.len() - at - 4 < 2 * count as usize {
-        return TypeCountAnswer::Refused(refusal::runs_past(at));
+        return Err(refusal::runs_past(at));
     }
-    match all(s, j, count) {
-        CheckAnswer::Refused(r) => TypeCountAnswer::Refused(r),
-        CheckAnswer::Accepted => TypeCountAnswer::Got(count),
-    }
+    all(s, j, count)?;
+Ok(count)
 }
 
 // Entry k of a list that obeys its rules.
-pub fn type_at(s: &[u8], j: TypeListJudge, k: u32) -> TypeAnswer
+pub fn type_at(s: &[u8], j: TypeListJudge, k: u32) -> Result<u32, Refusal>
     ensures { type_outcome result ≡ number_at s.now j k }
 {
-    match count_at(s, j) {
-        TypeCountAnswer::Refused(r) => TypeAnswer::Refused(r),
-        TypeCountAnswer::Got(count) => {
-            if k < count {
-                return TypeAnswer::Got(entry_number(s, j, k));
+    let count = count_at(s, j)?;
+if k < count {
+                return Ok(entry_number(s, j, k));
             }
-            TypeAnswer::Refused(refusal::not_there())
-        }
-    }
+            Err(refusal::not_there())
 }
 
 // How many types the list at an offset has, 0 where it is absent.
-pub fn list_count(f: &[u8], header: Header, at: u32) -> TypeCountAnswer
+pub fn list_count(f: &[u8], header: Header, at: u32) -> Result<u32, Refusal>
     ensures { count_outcome result ≡ list_count f.now header at }
 {
     let order = header.order;
@@ -113,15 +91,13 @@ pub fn list_count(f: &[u8], header: Header, at: u32) -> TypeCountAnswer
             },
         );
     }
-    TypeCountAnswer::Got(0)
+    Ok(0)
 }
 
 // The list of types at an offset, if it is not absent.
-pub fn check_types(f: &[u8], header: Header, at: u32) -> CheckAnswer
+pub fn check_types(f: &[u8], header: Header, at: u32) -> Result<(), Refusal>
     ensures { checked_outcome result ≡ types_accepted f.now header at }
 {
-    match list_count(f, header, at) {
-        TypeCountAnswer::Refused(r) => CheckAnswer::Refused(r),
-        TypeCountAnswer::Got(_) => CheckAnswer::Accepted,
-    }
+    list_count(f, header, at)?;
+Ok(())
 }

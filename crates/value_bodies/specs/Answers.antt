@@ -1,25 +1,22 @@
 -- What the answers of the code say.
-use Rattle.std.specs.Prelude.{ℕ}
-use Rattle.refusal.specs.Outcome.{Outcome, answer, refused}
+use Rattle.std.specs.Prelude.{ℕ, Result}
+use Rattle.refusal.specs.Outcome.{Outcome}
 use Rattle.decoded_value.specs.Shown.{Shown, value_shown}
 use Rattle.value_bodies.specs.Bodies.{Noted, ShownElement}
-use Rattle.value_bodies.specs.declared.BodySizeAnswer as C
-use Rattle.value_bodies.specs.declared.PickedAnswer as P
-use Rattle.value_bodies.specs.declared.AnnotationHeadAnswer as H
-use Rattle.value_bodies.specs.declared.ElementAnswer as E
+use Rattle.refusal.specs.Answers.{outcome}
+use Rattle.refusal.specs.declared.Refusal.{Refusal}
+use Rattle.decoded_value.specs.declared.Value as V
+use Rattle.value_bodies.specs.declared.AnnotationHead as A
+use Rattle.value_bodies.specs.declared.Element as E
 
-abbrev pub count_outcome : C.BodySizeAnswer → Outcome ℕ
-count_outcome (C.TheVariants.Got n) = answer n
-count_outcome (C.TheVariants.Refused r) = refused r
+abbrev pub count_outcome : Result ℕ Refusal → Outcome ℕ
+count_outcome = outcome (λ (n : ℕ). n)
 
-abbrev pub picked_outcome : P.PickedAnswer → Outcome Shown
-picked_outcome (P.TheVariants.Got v) = answer (value_shown v)
-picked_outcome (P.TheVariants.Refused r) = refused r
+abbrev pub picked_outcome : Result V.Value Refusal → Outcome Shown
+picked_outcome = outcome (λ (v : V.Value). value_shown v)
 
-abbrev pub annotation_head_outcome : H.AnnotationHeadAnswer → Outcome Noted
-annotation_head_outcome (H.TheVariants.Got t n) = answer (record { type_index = t; count = n })
-annotation_head_outcome (H.TheVariants.Refused r) = refused r
+abbrev pub annotation_head_outcome : Result A.AnnotationHead Refusal → Outcome Noted
+annotation_head_outcome = outcome (λ (x : A.AnnotationHead). record { type_index = x.type_index; count = x.count })
 
-abbrev pub element_outcome : E.ElementAnswer → Outcome ShownElement
-element_outcome (E.TheVariants.Got n v) = answer (record { name = n; value = value_shown v })
-element_outcome (E.TheVariants.Refused r) = refused r
+abbrev pub element_outcome : Result E.Element Refusal → Outcome ShownElement
+element_outcome = outcome (λ (x : E.Element). record { name = x.name; value = value_shown x.value })

@@ -7,195 +7,124 @@ ghost use Rattle.value_bodies.specs.Bodies.{array_count, array_value, annotation
 ghost use Rattle.value_bodies.specs.Bodies.{values_past, elements_past, element_there, kth_value, kth_element};
 ghost use Rattle.value_bodies.specs.Answers.{count_outcome, picked_outcome, annotation_head_outcome, element_outcome};
 
-use decoded_value::{DecodedAnswer, Value};
-use encoded_value::{DEEPEST_VALUE, StepAnswer};
-use leb128::LebAnswer;
-use refusal::Refusal;
+use decoded_value::Value;
+use encoded_value::DEEPEST_VALUE;
+use refusal::{Read, Refusal};
 use value_heads::Walk;
-
-#[derive(Clone, Copy)]
-pub enum BodySizeAnswer {
-    Got(u32),
-    Refused(Refusal),
-}
-
-#[derive(Clone, Copy)]
-pub enum PickedAnswer {
-    Got(Value),
-    Refused(Refusal),
-}
 
 // An annotation's type, and how many elements it has.
 #[derive(Clone, Copy)]
-pub enum AnnotationHeadAnswer {
-    Got { type_index: u32, count: u32 },
-    Refused(Refusal),
+pub struct AnnotationHead {
+    pub type_index: u32,
+    pub count: u32,
 }
 
 #[derive(Clone, Copy)]
-pub enum ElementAnswer {
-    Got { name: u32, value: Value },
-    Refused(Refusal),
+pub struct Element {
+    pub name: u32,
+    pub value: Value,
 }
 
 // How many values the array at a place has.
-pub fn array_count(s: &[u8], w: Walk, at: usize) -> BodySizeAnswer
+pub fn array_count(s: &[u8], w: Walk, at: usize) -> Result<u32, Refusal>
     ensures { count_outcome result ≡ array_count s.now w at }
 {
-    match encoded_value::top_array(s, w, at) {
-        StepAnswer::Refused(r) => BodySizeAnswer::Refused(r),
-        StepAnswer::Next(_) => match leb128::uleb(s, at, w.item) {
-            LebAnswer::Refused(r) => BodySizeAnswer::Refused(r),
-            LebAnswer::Got { value, next: _ } => BodySizeAnswer::Got(value),
-        },
-    }
+    encoded_value::top_array(s, w, at)?;
+let Read { value, .. } = leb128::uleb(s, at, w.item)?;
+Ok(value)
 }
 
 // Where k values end, one after the other.
-fn values_past(s: &[u8], w: Walk, from: usize, k: u32) -> StepAnswer
+fn values_past(s: &[u8], w: Walk, from: usize, k: u32) -> Result<usize, Refusal>
     ensures { step_outcome result ≡ values_past s.now w from k }
 {
     let mut p = from;
-    let mut left = k;
-    while 0 < left {
-        match encoded_value::value(s, w, p, DEEPEST_VALUE) {
-            StepAnswer::Refused(r) => {
-                return StepAnswer::Refused(r);
-            }
-            StepAnswer::Next(next) => {
-                p = next;
-            }
-        }
-        left -= 1;
+    for _ in 0..k {
+        let next = encoded_value::value(s, w, p, DEEPEST_VALUE)?;
+p = next;
     }
-    StepAnswer::Next(p)
+    Ok(p)
 }
 
 // The value behind k others.
-fn kth_value(s: &[u8], w: Walk, from: usize, k: u32) -> PickedAnswer
+fn kth_value(s: &[u8], w: Walk, from: usize, k: u32) -> Result<Value, Refusal>
     ensures { picked_outcome result ≡ kth_value s.now w from k }
 {
-    match values_past(s, w, from, k) {
-        StepAnswer::Refused(r) => PickedAnswer::Refused(r),
-        StepAnswer::Next(at) => match decoded_value::decode_at(s, w, at, DEEPEST_VALUE) {
-            DecodedAnswer::Refused(r) => PickedAnswer::Refused(r),
-            DecodedAnswer::Got { value, next: _ } => PickedAnswer::Got(value),
-        },
-    }
+    let at = values_past(s, w, from, k)?;
+let Read { value, .. } = decoded_value::decode_at(s, w, at, DEEPEST_VALUE)?;
+Ok(value)
 }
 
 // Number k of the values of the array at a place.
-pub fn array_value(s: &[u8], w: Walk, at: usize, k: u32) -> PickedAnswer
+pub fn array_value(s: &[u8], w: Walk, at: usize, k: u32) -> Result<Value, Refusal>
     ensures { picked_outcome result ≡ array_value s.now w at k }
 {
-    match encoded_value::top_array(s, w, at) {
-        StepAnswer::Refused(r) => PickedAnswer::Refused(r),
-        StepAnswer::Next(_) => match leb128::uleb(s, at, w.item) {
-            LebAnswer::Refused(r) => PickedAnswer::Refused(r),
-            LebAnswer::Got { value: count, next } => {
-                if k < count {
+    encoded_value::top_array(s, w, at)?;
+let Read { value: count, next } = leb128::uleb(s, at, w.item)?;
+if k < count {
                     return kth_value(s, w, next, k);
                 }
-                PickedAnswer::Refused(refusal::not_there())
-            }
-        },
-    }
+                Err(refusal::not_there())
 }
 
 // The type of the annotation at a place, and how many elements it has.
-pub fn annotation_head(s: &[u8], w: Walk, at: usize) -> AnnotationHeadAnswer
+pub fn annotation_head(s: &[u8], w: Walk, at: usize) -> Result<AnnotationHead, Refusal>
     ensures { annotation_head_outcome result ≡ annotation_noted s.now w at }
 {
-    match encoded_value::top_annotation(s, w, at) {
-        StepAnswer::Refused(r) => AnnotationHeadAnswer::Refused(r),
-        StepAnswer::Next(_) => match value_heads::index_at(s, w.item, w.types, at) {
-            LebAnswer::Refused(r) => AnnotationHeadAnswer::Refused(r),
-            LebAnswer::Got {
-                value: type_index,
-                next,
-            } => match leb128::uleb(s, next, w.item) {
-                LebAnswer::Refused(r) => AnnotationHeadAnswer::Refused(r),
-                LebAnswer::Got {
-                    value: count,
-                    next: _,
-                } => AnnotationHeadAnswer::Got { type_index, count },
-            },
-        },
-    }
+    encoded_value::top_annotation(s, w, at)?;
+let Read { value: type_index, next } = value_heads::index_at(s, w.item, w.types, at)?;
+let Read { value: count, .. } = leb128::uleb(s, next, w.item)?;
+Ok(AnnotationHead { type_index, count })
 }
 
 // Where k elements end, one after the other.
-fn elements_past(s: &[u8], w: Walk, from: usize, k: u32) -> StepAnswer
+fn elements_past(s: &[u8], w: Walk, from: usize, k: u32) -> Result<usize, Refusal>
     ensures { step_outcome result ≡ elements_past s.now w from k }
 {
     let mut p = from;
-    let mut left = k;
-    while 0 < left {
-        match value_heads::index_at(s, w.item, w.strings, p) {
-            LebAnswer::Refused(r) => {
-                return StepAnswer::Refused(r);
-            }
-            LebAnswer::Got { value: _, next: at } => match encoded_value::value(
+    for _ in 0..k {
+        let Read { next: at, .. } = value_heads::index_at(s, w.item, w.strings, p)?;
+let next = encoded_value::value(
                 s,
                 w,
                 at,
                 DEEPEST_VALUE,
-            ) {
-                StepAnswer::Refused(r) => {
-                    return StepAnswer::Refused(r);
-                }
-                StepAnswer::Next(next) => {
-                    p = next;
-                }
-            },
-        }
-        left -= 1;
+            )?;
+p = next;
     }
-    StepAnswer::Next(p)
+    Ok(p)
 }
 
 // The element at a place: its name and its value.
-fn element_at(s: &[u8], w: Walk, at: usize) -> ElementAnswer
+fn element_at(s: &[u8], w: Walk, at: usize) -> Result<Element, Refusal>
     ensures { element_outcome result ≡ element_there s.now w at }
 {
-    match value_heads::index_at(s, w.item, w.strings, at) {
-        LebAnswer::Refused(r) => ElementAnswer::Refused(r),
-        LebAnswer::Got { value: name, next } => match decoded_value::decode_at(
+    let Read { value: name, next } = value_heads::index_at(s, w.item, w.strings, at)?;
+let Read { value, .. } = decoded_value::decode_at(
             s,
             w,
             next,
             DEEPEST_VALUE,
-        ) {
-            DecodedAnswer::Refused(r) => ElementAnswer::Refused(r),
-            DecodedAnswer::Got { value, next: _ } => ElementAnswer::Got { name, value },
-        },
-    }
+        )?;
+Ok(Element { name, value })
 }
 
 // The element behind k others.
-fn kth_element(s: &[u8], w: Walk, from: usize, k: u32) -> ElementAnswer
+fn kth_element(s: &[u8], w: Walk, from: usize, k: u32) -> Result<Element, Refusal>
     ensures { element_outcome result ≡ kth_element s.now w from k }
 {
-    match elements_past(s, w, from, k) {
-        StepAnswer::Refused(r) => ElementAnswer::Refused(r),
-        StepAnswer::Next(at) => element_at(s, w, at),
-    }
+    let at = elements_past(s, w, from, k)?;
+element_at(s, w, at)
 }
 
 // Number k of the elements of the annotation at a place.
-pub fn annotation_element(s: &[u8], w: Walk, at: usize, k: u32) -> ElementAnswer
+pub fn annotation_element(s: &[u8], w: Walk, at: usize, k: u32) -> Result<Element, Refusal>
     ensures { element_outcome result ≡ annotation_element s.now w at k }
 {
-    match encoded_value::top_annotation(s, w, at) {
-        StepAnswer::Refused(r) => ElementAnswer::Refused(r),
-        StepAnswer::Next(_) => match encoded_value::annotation_start(s, w, at) {
-            LebAnswer::Refused(r) => ElementAnswer::Refused(r),
-            LebAnswer::Got { value: count, next } => {
-                if k < count {
+    encoded_value::top_annotation(s, w, at)?;
+let Read { value: count, next } = encoded_value::annotation_start(s, w, at)?;
+if k < count {
                     return kth_element(s, w, next, k);
                 }
-                ElementAnswer::Refused(refusal::not_there())
-            }
-        },
-    }
+                Err(refusal::not_there())
 }

@@ -1,18 +1,17 @@
 -- What the answers of the code say.
-use Rattle.std.specs.Prelude.{ℕ, ◌*◌, ◌^◌, ◌<◌, ◌≡◌}
-use Rattle.refusal.specs.Outcome.{Outcome, answer, refused}
+use Rattle.std.specs.Prelude.{ℕ, ◌*◌, ◌^◌, ◌<◌, ◌≡◌, Result}
+use Rattle.refusal.specs.Outcome.{Outcome}
 use Rattle.refusal.specs.Rows.{Found}
 use Rattle.value_heads.specs.Kinds.{bytes_of}
-use Rattle.value_heads.specs.declared.HeadByteAnswer as H
-use Rattle.value_heads.specs.declared.NumberAnswer as N
+use Rattle.refusal.specs.Answers.{found, outcome}
+use Rattle.refusal.specs.declared.Refusal.{Refusal}
+use Rattle.refusal.specs.declared.Read as R
 
-abbrev pub head_byte_outcome : H.HeadByteAnswer → Outcome ℕ
-head_byte_outcome (H.TheVariants.Got h) = answer h
-head_byte_outcome (H.TheVariants.Refused r) = refused r
+abbrev pub head_byte_outcome : Result ℕ Refusal → Outcome ℕ
+head_byte_outcome = outcome (λ (h : ℕ). h)
 
-abbrev pub number_outcome : N.NumberAnswer → Outcome (Found ℕ ℕ)
-number_outcome (N.TheVariants.Got v n) = answer (record { item = v; next = n })
-number_outcome (N.TheVariants.Refused r) = refused r
+abbrev pub number_outcome : Result (R.Read ℕ) Refusal → Outcome (Found ℕ ℕ)
+number_outcome = outcome (found (λ (v : ℕ). v))
 
 -- a number is no larger than its bytes allow
 pub record Small (head : ℕ) (x : N.NumberAnswer) : Type 0 where

@@ -11,8 +11,7 @@ ghost use Rattle.value_heads.specs.Answers.{head_byte_outcome, number_outcome, S
 ghost use Rattle.leb128.specs.Answers.{leb_outcome};
 
 use frame::Frame;
-use leb128::LebAnswer;
-use refusal::Refusal;
+use refusal::{Read, Refusal};
 
 // How many arguments each code allows, from 0 on.
 pub const ARGUMENTS: [u8; 32] = [
@@ -29,19 +28,6 @@ pub struct Walk {
     pub fields: u32,
     pub methods: u32,
     pub handles: u32,
-}
-
-#[derive(Clone, Copy)]
-pub enum HeadByteAnswer {
-    Got(u8),
-    Refused(Refusal),
-}
-
-// The number of a value's bytes, low first.
-#[derive(Clone, Copy)]
-pub enum NumberAnswer {
-    Got { value: u64, next: usize },
-    Refused(Refusal),
 }
 
 pub fn walk_of(frame: Frame, item: usize) -> Walk
@@ -106,17 +92,17 @@ fn limit_of(w: Walk, code: u8) -> u32
 }
 
 // A value's head byte: 9 where it is missing, 12 where it is not allowed.
-pub fn head_at(s: &[u8], item: usize, at: usize) -> HeadByteAnswer
+pub fn head_at(s: &[u8], item: usize, at: usize) -> Result<u8, Refusal>
     ensures { head_byte_outcome result ≡ head_byte_at s.now item at }
 {
     if s.len() <= at {
-        return HeadByteAnswer::Refused(refusal::runs_past(item));
+        return Err(refusal::runs_past(item));
     }
     let head = s[at];
     if is_allowed_head(head) {
-        return HeadByteAnswer::Got(head);
+        return Ok(head);
     }
-    HeadByteAnswer::Refused(refusal::wrong_value(item))
+    Err(refusal::wrong_value(item))
 }
 
 // The number of the n bytes from a place on, low first.
@@ -134,17 +120,14 @@ fn joined(s: &[u8], at: usize, n: usize) -> u64
 }
 
 // The number of the bytes that follow a head byte.
-fn number_at(s: &[u8], item: usize, at: usize, head: u8) -> NumberAnswer
+fn number_at(s: &[u8], item: usize, at: usize, head: u8) -> Result<Read<u64>, Refusal>
     ensures { (number_outcome result ≡ number_at s.now item at (bytes_of head)) × Small head result }
 {
     let n = size_of(head);
     if word::has_room(s.len(), at, n) {
-        return NumberAnswer::Got {
-            value: joined(s, at, n),
-            next: at + n,
-        };
+        return Ok(Read { value: joined(s, at, n), next: at + n });
     }
-    NumberAnswer::Refused(refusal::runs_past(item))
+    Err(refusal::runs_past(item))
 }
 
 // Is a number allowed for a code: an index is below its count.
@@ -158,31 +141,23 @@ fn is_in_range(w: Walk, code: u8, number: u64) -> bool
 }
 
 // The number of a value that is no body, behind its head byte: its bytes, then its index.
-pub fn checked_number(s: &[u8], w: Walk, at: usize, head: u8) -> NumberAnswer
+pub fn checked_number(s: &[u8], w: Walk, at: usize, head: u8) -> Result<Read<u64>, Refusal>
     ensures { (number_outcome result ≡ checked_at s.now w head at) × Small head result }
 {
-    match number_at(s, w.item, at, head) {
-        NumberAnswer::Refused(r) => NumberAnswer::Refused(r),
-        NumberAnswer::Got { value, next } => {
-            if is_in_range(w, head % 32, value) {
-                return NumberAnswer::Got { value, next };
+    let Read { value, next } = number_at(s, w.item, at, head)?;
+if is_in_range(w, head % 32, value) {
+                return Ok(Read { value, next });
             }
-            NumberAnswer::Refused(refusal::wrong_index(w.item))
-        }
-    }
+            Err(refusal::wrong_index(w.item))
 }
 
 // A LEB128 number that is an index below a count.
-pub fn index_at(s: &[u8], item: usize, count: u32, at: usize) -> LebAnswer
+pub fn index_at(s: &[u8], item: usize, count: u32, at: usize) -> Result<Read<u32>, Refusal>
     ensures { leb_outcome result ≡ index_at s.now item count at }
 {
-    match leb128::uleb(s, at, item) {
-        LebAnswer::Refused(r) => LebAnswer::Refused(r),
-        LebAnswer::Got { value, next } => {
-            if value < count {
-                return LebAnswer::Got { value, next };
+    let Read { value, next } = leb128::uleb(s, at, item)?;
+if value < count {
+                return Ok(Read { value, next });
             }
-            LebAnswer::Refused(refusal::wrong_index(item))
-        }
-    }
+            Err(refusal::wrong_index(item))
 }

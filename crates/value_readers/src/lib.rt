@@ -15,18 +15,16 @@ pub use statics::{static_value, static_value_count, value_in, values_in};
 
 // How many values an array has, and its length in bytes.
 #[derive(Clone, Copy)]
-pub enum ArrayAnswer {
-    Got { count: u32, length: usize },
-    Refused(Refusal),
+pub struct ArrayOutline {
+    pub count: u32,
+    pub length: usize,
 }
 
 // The type of an annotation body, how many elements it has, and its length in bytes.
 #[derive(Clone, Copy)]
-pub enum BodyAnswer {
-    Got {
-        type_index: u32,
-        count: u32,
-        length: usize,
-    },
-    Refused(Refusal),
+pub struct BodyOutline {
+    pub type_index: u32,
+    pub count: u32,
+    pub length: usize,
 }
+

@@ -3,13 +3,11 @@ ghost use Rattle.std.specs.Prelude.{◌≡◌};
 ghost use Rattle.value_bodies.specs.Answers.{count_outcome, picked_outcome};
 ghost use Rattle.value_readers.specs.Statics.{values_in, values_under, static_count, static_value_in, value_under, static_value};
 
-use class_ids::ClassAnswer;
 use header::Header;
-use table_readers::OpenedAnswer;
-use value_bodies::{BodySizeAnswer, PickedAnswer};
+use refusal::Refusal;
 
 // How many values the array of a class has, 0 where it is absent.
-pub fn values_in(f: &[u8], header: Header, handles: u32, at: u32) -> BodySizeAnswer
+pub fn values_in(f: &[u8], header: Header, handles: u32, at: u32) -> Result<u32, Refusal>
     ensures { count_outcome result ≡ values_in f.now header handles at }
 {
     let place = at as usize;
@@ -20,33 +18,27 @@ pub fn values_in(f: &[u8], header: Header, handles: u32, at: u32) -> BodySizeAns
             place,
         );
     }
-    BodySizeAnswer::Got(0)
+    Ok(0)
 }
 
-fn values_under(f: &[u8], header: Header, handles: u32, c: u32) -> BodySizeAnswer
+fn values_under(f: &[u8], header: Header, handles: u32, c: u32) -> Result<u32, Refusal>
     ensures { count_outcome result ≡ values_under f.now c header handles }
 {
-    match table_readers::class_in(f, header, c) {
-        ClassAnswer::Refused(r) => BodySizeAnswer::Refused(r),
-        ClassAnswer::Got(found) => values_in(f, header, handles, found.values),
-    }
+    let found = table_readers::class_in(f, header, c)?;
+values_in(f, header, handles, found.values)
 }
 
 // How many static values class c has.
-pub fn static_value_count(f: &[u8], c: u32) -> BodySizeAnswer
+pub fn static_value_count(f: &[u8], c: u32) -> Result<u32, Refusal>
     ensures { count_outcome result ≡ static_count f.now c }
 {
-    match table_readers::open(f) {
-        OpenedAnswer::Refused(r) => BodySizeAnswer::Refused(r),
-        OpenedAnswer::Got(o) => {
-            let header = o.header;
+    let o = table_readers::open(f)?;
+let header = o.header;
             values_under(f, header, o.handles, c)
-        }
-    }
 }
 
 // Value k of the array of a class.
-pub fn value_in(f: &[u8], header: Header, handles: u32, at: u32, k: u32) -> PickedAnswer
+pub fn value_in(f: &[u8], header: Header, handles: u32, at: u32, k: u32) -> Result<Value, Refusal>
     ensures { picked_outcome result ≡ static_value_in f.now header handles at k }
 {
     let place = at as usize;
@@ -58,27 +50,21 @@ pub fn value_in(f: &[u8], header: Header, handles: u32, at: u32, k: u32) -> Pick
             k,
         );
     }
-    PickedAnswer::Refused(refusal::not_there())
+    Err(refusal::not_there())
 }
 
-fn value_under(f: &[u8], header: Header, handles: u32, c: u32, k: u32) -> PickedAnswer
+fn value_under(f: &[u8], header: Header, handles: u32, c: u32, k: u32) -> Result<Value, Refusal>
     ensures { picked_outcome result ≡ value_under f.now c k header handles }
 {
-    match table_readers::class_in(f, header, c) {
-        ClassAnswer::Refused(r) => PickedAnswer::Refused(r),
-        ClassAnswer::Got(found) => value_in(f, header, handles, found.values, k),
-    }
+    let found = table_readers::class_in(f, header, c)?;
+value_in(f, header, handles, found.values, k)
 }
 
 // Static value k of class c.
-pub fn static_value(f: &[u8], c: u32, k: u32) -> PickedAnswer
+pub fn static_value(f: &[u8], c: u32, k: u32) -> Result<Value, Refusal>
     ensures { picked_outcome result ≡ static_value f.now c k }
 {
-    match table_readers::open(f) {
-        OpenedAnswer::Refused(r) => PickedAnswer::Refused(r),
-        OpenedAnswer::Got(o) => {
-            let header = o.header;
+    let o = table_readers::open(f)?;
+let header = o.header;
             value_under(f, header, o.handles, c, k)
-        }
-    }
 }

@@ -1,8 +1,9 @@
 -- What a verdict says.
-use Rattle.refusal.specs.Outcome.{Outcome, answer, refused}
+use Rattle.refusal.specs.Outcome.{Outcome}
 use Rattle.header.specs.declared.Header.{Header}
-use Rattle.verdict.specs.declared.Verdict as D
+use Rattle.std.specs.Prelude.{Result}
+use Rattle.refusal.specs.Answers.{outcome}
+use Rattle.refusal.specs.declared.Refusal.{Refusal}
 
-abbrev pub verdict_outcome : D.Verdict → Outcome Header
-verdict_outcome (D.TheVariants.Accepted header) = answer header
-verdict_outcome (D.TheVariants.Refused r) = refused r
+abbrev pub verdict_outcome : Result Header Refusal → Outcome Header
+verdict_outcome = outcome (λ (header : Header). header)

@@ -4,9 +4,3 @@
 use header::Header;
 use refusal::Refusal;
 
-// The header of a file that obeys every rule, or the refusal.
-#[derive(Clone, Copy)]
-pub enum Verdict {
-    Accepted(Header),
-    Refused(Refusal),
-}

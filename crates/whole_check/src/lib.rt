@@ -7,32 +7,24 @@ ghost use Rattle.verdict.specs.Answers.{verdict_outcome};
 ghost use Rattle.whole_check.specs.File.{check_at, verdict_at};
 ghost use Rattle.whole_check.specs.Passes.{names_pass, records_pass, items_pass, tables_pass, pass_in, verdict_in};
 
-use header::{Header, HeaderAnswer, Table};
-use map_list::MapAnswer;
-use refusal::CheckAnswer;
-use verdict::Verdict;
+use header::{Header, Table};
+use refusal::Refusal;
 
 mod tables;
 
 // Strings, types, and protos with their parameters.
-fn names_pass(f: &[u8], header: Header) -> CheckAnswer
+fn names_pass(f: &[u8], header: Header) -> Result<(), Refusal>
     ensures { checked_outcome result ≡ names_pass f.now header }
 {
     let types = header.types;
     let protos = header.protos;
-    match string_ids::check_strings(f, header) {
-        CheckAnswer::Refused(r) => CheckAnswer::Refused(r),
-        CheckAnswer::Accepted => {
-            match tables::types_pass(f, header::plain_frame(header), types.offset, types.count) {
-                CheckAnswer::Refused(r) => CheckAnswer::Refused(r),
-                CheckAnswer::Accepted => tables::protos_pass(f, header, protos.count),
-            }
-        }
-    }
+    string_ids::check_strings(f, header)?;
+tables::types_pass(f, header::plain_frame(header), types.offset, types.count)?;
+tables::protos_pass(f, header, protos.count)
 }
 
 // Fields and methods.
-fn records_pass(f: &[u8], header: Header) -> CheckAnswer
+fn records_pass(f: &[u8], header: Header) -> Result<(), Refusal>
     ensures { checked_outcome result ≡ records_pass f.now header }
 {
     let types = header.types;
@@ -40,75 +32,55 @@ fn records_pass(f: &[u8], header: Header) -> CheckAnswer
     let fields = header.fields;
     let methods = header.methods;
     let frame = header::plain_frame(header);
-    match tables::members_pass(f, frame, types.count, fields.offset, fields.count) {
-        CheckAnswer::Refused(r) => CheckAnswer::Refused(r),
-        CheckAnswer::Accepted => {
-            tables::members_pass(f, frame, protos.count, methods.offset, methods.count)
-        }
-    }
+    tables::members_pass(f, frame, types.count, fields.offset, fields.count)?;
+tables::members_pass(f, frame, protos.count, methods.offset, methods.count)
 }
 
 // Method handles, and classes with all below them.
-fn items_pass(f: &[u8], header: Header, t: Table) -> CheckAnswer
+fn items_pass(f: &[u8], header: Header, t: Table) -> Result<(), Refusal>
     ensures { checked_outcome result ≡ items_pass f.now header t }
 {
     let classes = header.classes;
-    match tables::handles_pass(f, header::frame_of(header, t.count), t.offset, t.count) {
-        CheckAnswer::Refused(r) => CheckAnswer::Refused(r),
-        CheckAnswer::Accepted => tables::classes_pass(f, header, t.count, classes.count),
-    }
+    tables::handles_pass(f, header::frame_of(header, t.count), t.offset, t.count)?;
+tables::classes_pass(f, header, t.count, classes.count)
 }
 
-fn tables_pass(f: &[u8], header: Header, t: Table) -> CheckAnswer
+fn tables_pass(f: &[u8], header: Header, t: Table) -> Result<(), Refusal>
     ensures { checked_outcome result ≡ tables_pass f.now header t }
 {
-    match names_pass(f, header) {
-        CheckAnswer::Refused(r) => CheckAnswer::Refused(r),
-        CheckAnswer::Accepted => match records_pass(f, header) {
-            CheckAnswer::Refused(r) => CheckAnswer::Refused(r),
-            CheckAnswer::Accepted => items_pass(f, header, t),
-        },
-    }
+    names_pass(f, header)?;
+records_pass(f, header)?;
+items_pass(f, header, t)
 }
 
-fn check_in(f: &[u8], header: Header) -> CheckAnswer
+fn check_in(f: &[u8], header: Header) -> Result<(), Refusal>
     ensures { checked_outcome result ≡ pass_in f.now header }
 {
-    match map_list::map_of(f, header) {
-        MapAnswer::Refused(r) => CheckAnswer::Refused(r),
-        MapAnswer::Got(m) => {
-            let t = m.handles;
+    let m = map_list::map_of(f, header)?;
+let t = m.handles;
             tables_pass(f, header, t)
-        }
-    }
 }
 
 // A file with a good header: what the rest comes to.
-fn verdict_in(f: &[u8], header: Header) -> Verdict
+fn verdict_in(f: &[u8], header: Header) -> Result<Header, Refusal>
     ensures { verdict_outcome result ≡ verdict_in f.now header }
 {
-    match check_in(f, header) {
-        CheckAnswer::Refused(r) => Verdict::Refused(r),
-        CheckAnswer::Accepted => Verdict::Accepted(header),
-    }
+    check_in(f, header)?;
+Ok(header)
 }
 
 // The header of an accepted file, which is read once, or the first broken rule in document 01's order.
-pub fn verdict(f: &[u8]) -> Verdict
+pub fn verdict(f: &[u8]) -> Result<Header, Refusal>
     ensures { verdict_outcome result ≡ verdict_at f.now }
 {
-    match header::header_of(f) {
-        HeaderAnswer::Refused(r) => Verdict::Refused(r),
-        HeaderAnswer::Got(header) => verdict_in(f, header),
-    }
+    let header = header::header_of(f)?;
+verdict_in(f, header)
 }
 
 // Accepted, or the first broken rule in document 01's order.
-pub fn check(f: &[u8]) -> CheckAnswer
+pub fn check(f: &[u8]) -> Result<(), Refusal>
     ensures { checked_outcome result ≡ check_at f.now }
 {
-    match verdict(f) {
-        Verdict::Refused(r) => CheckAnswer::Refused(r),
-        Verdict::Accepted(_) => CheckAnswer::Accepted,
-    }
+    verdict(f)?;
+Ok(())
 }

@@ -5,8 +5,7 @@ ghost use Rattle.whole_check.specs.Passes.{rising, types_pass, proto_pass, proto
 
 use frame::Frame;
 use header::Header;
-use ids::{HandleAnswer, IndexAnswer, MemberIdAnswer, ProtoAnswer};
-use refusal::CheckAnswer;
+use refusal::Refusal;
 
 // Does a type's string come after the last one, if there was one.
 fn rises(later: bool, last: u32, string: u32) -> bool
@@ -26,136 +25,80 @@ fn place_of(offset: u32, n: u32) -> usize
 }
 
 // All types, each by its own rule and then by its order.
-pub fn types_pass(f: &[u8], frame: Frame, offset: u32, count: u32) -> CheckAnswer
+pub fn types_pass(f: &[u8], frame: Frame, offset: u32, count: u32) -> Result<(), Refusal>
     ensures { checked_outcome result ≡ types_pass f.now frame offset count }
 {
     let mut later = false;
     let mut last: u32 = 0;
-    let mut k: u32 = 0;
-    let mut left = count;
-    while 0 < left {
-        match ids::type_at(f, frame, offset, k) {
-            IndexAnswer::Refused(a) => {
-                return CheckAnswer::Refused(a);
-            }
-            IndexAnswer::Got(string) => {
-                if rises(later, last, string) {
+    for k in 0..count {
+        let string = ids::type_at(f, frame, offset, k)?;
+if rises(later, last, string) {
                     last = string;
                 } else {
-                    return CheckAnswer::Refused(refusal::out_of_order(place_of(offset, k)));
+                    return Err(refusal::out_of_order(place_of(offset, k)));
                 }
-            }
-        }
         later = true;
-        k += 1;
-        left -= 1;
     }
-    CheckAnswer::Accepted
+    Ok(())
 }
 
 // Proto n with its parameter list.
-fn proto_pass(f: &[u8], header: Header, n: u32) -> CheckAnswer
+fn proto_pass(f: &[u8], header: Header, n: u32) -> Result<(), Refusal>
     ensures { checked_outcome result ≡ proto_pass f.now header n }
 {
     let t = header.protos;
-    match ids::proto_at(f, header::plain_frame(header), header.end, t.offset, n) {
-        ProtoAnswer::Refused(r) => CheckAnswer::Refused(r),
-        ProtoAnswer::Got(p) => type_list::check_types(f, header, p.parameters),
-    }
+    let p = ids::proto_at(f, header::plain_frame(header), header.end, t.offset, n)?;
+type_list::check_types(f, header, p.parameters)
 }
 
-pub fn protos_pass(f: &[u8], header: Header, count: u32) -> CheckAnswer
+pub fn protos_pass(f: &[u8], header: Header, count: u32) -> Result<(), Refusal>
     ensures { checked_outcome result ≡ protos_pass f.now header count }
 {
-    let mut k: u32 = 0;
-    let mut left = count;
-    while 0 < left {
-        match proto_pass(f, header, k) {
-            CheckAnswer::Refused(r) => {
-                return CheckAnswer::Refused(r);
-            }
-            CheckAnswer::Accepted => {
-                k += 1;
-            }
-        }
-        left -= 1;
+    for k in 0..count {
+        proto_pass(f, header, k)?;
     }
-    CheckAnswer::Accepted
+    Ok(())
 }
 
 // Field or method n: `kinds` counts types for a field, protos for a method.
-fn member_pass(f: &[u8], frame: Frame, kinds: u32, offset: u32, n: u32) -> CheckAnswer
+fn member_pass(f: &[u8], frame: Frame, kinds: u32, offset: u32, n: u32) -> Result<(), Refusal>
     ensures { checked_outcome result ≡ member_pass f.now frame kinds offset n }
 {
-    match ids::member_at(f, frame, kinds, offset, n) {
-        MemberIdAnswer::Refused(a) => CheckAnswer::Refused(a),
-        MemberIdAnswer::Got(_) => CheckAnswer::Accepted,
-    }
+    ids::member_at(f, frame, kinds, offset, n)?;
+Ok(())
 }
 
-pub fn members_pass(f: &[u8], frame: Frame, kinds: u32, offset: u32, count: u32) -> CheckAnswer
+pub fn members_pass(f: &[u8], frame: Frame, kinds: u32, offset: u32, count: u32) -> Result<(), Refusal>
     ensures { checked_outcome result ≡ members_pass f.now frame kinds offset count }
 {
-    let mut k: u32 = 0;
-    let mut left = count;
-    while 0 < left {
-        match member_pass(f, frame, kinds, offset, k) {
-            CheckAnswer::Refused(a) => {
-                return CheckAnswer::Refused(a);
-            }
-            CheckAnswer::Accepted => {
-                k += 1;
-            }
-        }
-        left -= 1;
+    for k in 0..count {
+        member_pass(f, frame, kinds, offset, k)?;
     }
-    CheckAnswer::Accepted
+    Ok(())
 }
 
-fn handle_pass(f: &[u8], frame: Frame, offset: u32, n: u32) -> CheckAnswer
+fn handle_pass(f: &[u8], frame: Frame, offset: u32, n: u32) -> Result<(), Refusal>
     ensures { checked_outcome result ≡ handle_pass f.now frame offset n }
 {
-    match ids::handle_at(f, frame, offset, n) {
-        HandleAnswer::Refused(a) => CheckAnswer::Refused(a),
-        HandleAnswer::Got(_) => CheckAnswer::Accepted,
-    }
+    ids::handle_at(f, frame, offset, n)?;
+Ok(())
 }
 
-pub fn handles_pass(f: &[u8], frame: Frame, offset: u32, count: u32) -> CheckAnswer
+pub fn handles_pass(f: &[u8], frame: Frame, offset: u32, count: u32) -> Result<(), Refusal>
     ensures { checked_outcome result ≡ handles_pass f.now frame offset count }
 {
-    let mut k: u32 = 0;
-    let mut left = count;
-    while 0 < left {
-        match handle_pass(f, frame, offset, k) {
-            CheckAnswer::Refused(a) => {
-                return CheckAnswer::Refused(a);
-            }
-            CheckAnswer::Accepted => {
-                k += 1;
-            }
-        }
-        left -= 1;
+    for k in 0..count {
+        handle_pass(f, frame, offset, k)?;
     }
-    CheckAnswer::Accepted
+    Ok(())
 }
 
 // All classes, each with all below it.
-pub fn classes_pass(f: &[u8], header: Header, handles: u32, count: u32) -> CheckAnswer
+pub fn classes_pass(f: &[u8], header: Header, handles: u32, count: u32) -> Result<(), Refusal>
     ensures { checked_outcome result ≡ classes_pass f.now header handles count }
 {
-    let mut k: u32 = 0;
-    let mut left = count;
-    while 0 < left {
-        match class_walk::check_class(f, header, handles, k) {
-            CheckAnswer::Refused(r) => {
-                return CheckAnswer::Refused(r);
-            }
-            CheckAnswer::Accepted => {
-                k += 1;
-            }
-        }
-        left -= 1;
+    for k in 0..count {
+        class_walk::check_class(f, header, handles, k)?;
     }
-    CheckAnswer::Accepted
+    Ok(())
 }

@@ -3,13 +3,13 @@ use Rattle.std.proofs.Common.{rules}
 use Rattle.leb128.proofs.uleb.Goals as goal
 
 pub returns-then-only-lt128 : goal.returns-then-only-lt128
-returns-then-only-lt128 c = search (laws, rules) depth 9
+returns-then-only-lt128 c = search laws depth 9
 
-pub returns-then-value-lt4294967296 : goal.returns-then-value-lt4294967296
-returns-then-value-lt4294967296 c = search laws depth 7
+pub returns-in_err-n : goal.returns-in_err-n
+returns-in_err-n c = search laws depth 9
 
-pub returns-in-Refused : goal.returns-in-Refused
-returns-in-Refused c = search laws
+pub returns-then-n-lt4294967296 : goal.returns-then-n-lt4294967296
+returns-then-n-lt4294967296 c = search laws depth 9
 
-pub returns-else-value-lt4294967296 : goal.returns-else-value-lt4294967296
-returns-else-value-lt4294967296 c = search laws
+pub returns : goal.returns
+returns c = search laws depth 9

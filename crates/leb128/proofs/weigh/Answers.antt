@@ -1,8 +1,8 @@
 use Rattle.leb128.proofs.Laws.{weighing_laws as laws}
 use Rattle.leb128.proofs.weigh.Goals as goal
 
-pub loop-left-init : goal.loop-left-init
-loop-left-init c = search laws
+pub loop-k-init : goal.loop-k-init
+loop-k-init c = search laws
 
 pub returns-then-s-p : goal.returns-then-s-p
 returns-then-s-p c = search laws
@@ -28,8 +28,8 @@ overflow_add-value c = search laws
 pub overflow_mul-scale : goal.overflow_mul-scale
 overflow_mul-scale c = search laws
 
-pub loop-left-preserved : goal.loop-left-preserved
-loop-left-preserved c = search laws
+pub loop-k-preserved : goal.loop-k-preserved
+loop-k-preserved c = search laws
 
 pub returns : goal.returns
 returns c = search laws
