@@ -34,14 +34,14 @@ fn counts_at(s: &[u8], frame: Frame, item: usize, set: u32) -> Result<DirectoryH
     ensures { directory_head_outcome result ≡ counts_at s.now frame item set }
 {
     let fields = annotation_lists::word_at(s, frame, item, item + 4)?;
-let methods = annotation_lists::word_at(s, frame, item, item + 8)?;
-let parameters = annotation_lists::word_at(s, frame, item, item + 12)?;
-Ok(DirectoryHead {
-                    set,
-                    fields,
-                    methods,
-                    parameters,
-                })
+    let methods = annotation_lists::word_at(s, frame, item, item + 8)?;
+    let parameters = annotation_lists::word_at(s, frame, item, item + 12)?;
+    Ok(DirectoryHead {
+        set,
+        fields,
+        methods,
+        parameters,
+    })
 }
 
 // The head, field by field.
@@ -49,14 +49,20 @@ fn head_at(s: &[u8], frame: Frame, item: usize) -> Result<DirectoryHead, Refusal
     ensures { directory_head_outcome result ≡ head_at s.now frame item }
 {
     let set = annotation_lists::word_at(s, frame, item, item)?;
-if frame::is_allowed_or_absent(frame.start, s.len(), true, set as usize) {
-                return counts_at(s, frame, item, set);
-            }
-            Err(refusal::wrong_offset(item))
+    if frame::is_allowed_or_absent(frame.start, s.len(), true, set as usize) {
+        return counts_at(s, frame, item, set);
+    }
+    Err(refusal::wrong_offset(item))
 }
 
 // The entry at a place: its index below a limit, then its offset.
-fn entry_at(s: &[u8], frame: Frame, item: usize, limit: u32, at: usize) -> Result<DirectoryEntry, Refusal>
+fn entry_at(
+    s: &[u8],
+    frame: Frame,
+    item: usize,
+    limit: u32,
+    at: usize,
+) -> Result<DirectoryEntry, Refusal>
     requires { at + 8 ≤ length s.now }
     ensures { directory_entry_outcome result ≡ entry_at s.now frame item limit at }
 {
@@ -87,19 +93,26 @@ fn entries_pass(
     let mut at = from;
     for _ in 0..count {
         entry_at(s, frame, item, limit, at)?;
-at += 8;
+        at += 8;
     }
     Ok(())
 }
 
 // One of the three lists, its length first: where it ends.
-fn list_past(s: &[u8], frame: Frame, item: usize, limit: u32, from: usize, count: u32) -> Result<usize, Refusal>
+fn list_past(
+    s: &[u8],
+    frame: Frame,
+    item: usize,
+    limit: u32,
+    from: usize,
+    count: u32,
+) -> Result<usize, Refusal>
     ensures { step_outcome result ≡ list_past s.now frame item limit from count }
 {
     let size = 8 * count as usize;
     if word::has_room(s.len(), from, size) {
         entries_pass(s, frame, item, limit, from, count)?;
-return Ok(from + size);
+        return Ok(from + size);
     }
     Err(refusal::runs_past(item))
 }
@@ -110,16 +123,9 @@ fn lists_pass(s: &[u8], frame: Frame, item: usize, h: DirectoryHead) -> Result<(
     ensures { checked_outcome result ≡ lists_pass s.now frame item h }
 {
     let methods = list_past(s, frame, item, frame.fields, item + 16, h.fields)?;
-let parameters = list_past(
-            s,
-            frame,
-            item,
-            frame.methods,
-            methods,
-            h.methods,
-        )?;
-list_past(s, frame, item, frame.methods, parameters, h.parameters)?;
-Ok(())
+    let parameters = list_past(s, frame, item, frame.methods, methods, h.methods)?;
+    list_past(s, frame, item, frame.methods, parameters, h.parameters)?;
+    Ok(())
 }
 
 // The directory at a place, by its own rules: its head.
@@ -127,8 +133,8 @@ pub fn directory(s: &[u8], frame: Frame, item: usize) -> Result<DirectoryHead, R
     ensures { directory_head_outcome result ≡ directory_head s.now frame item }
 {
     let h = head_at(s, frame, item)?;
-lists_pass(s, frame, item, h)?;
-Ok(h)
+    lists_pass(s, frame, item, h)?;
+    Ok(h)
 }
 
 // How many entries a list has: fields 0, methods 1, parameters 2.
@@ -181,15 +187,15 @@ pub fn directory_entry(
     ensures { directory_entry_outcome result ≡ directory_entry s.now frame item list k }
 {
     let h = directory(s, frame, item)?;
-if k < count_of(h, list) {
-                let before = before_of(h, list);
-                return entry_at(
-                    s,
-                    frame,
-                    item,
-                    limit_of(frame, list),
-                    item + 16 + 8 * (before + k as usize),
-                );
-            }
-            Err(refusal::not_there())
+    if k < count_of(h, list) {
+        let before = before_of(h, list);
+        return entry_at(
+            s,
+            frame,
+            item,
+            limit_of(frame, list),
+            item + 16 + 8 * (before + k as usize),
+        );
+    }
+    Err(refusal::not_there())
 }

@@ -38,8 +38,8 @@ pub fn annotation_item(s: &[u8], frame: Frame, item: usize) -> Result<u8, Refusa
     ensures { visibility_outcome result ≡ item_visibility s.now frame item }
 {
     let visibility = visibility_at(s, item)?;
-encoded_value::top_annotation(s, value_heads::walk_of(frame, item), item + 1)?;
-Ok(visibility)
+    encoded_value::top_annotation(s, value_heads::walk_of(frame, item), item + 1)?;
+    Ok(visibility)
 }
 
 // The annotation item at a place: its visibility, its type, and how many elements it has.
@@ -47,8 +47,16 @@ pub fn annotation(s: &[u8], frame: Frame, item: usize) -> Result<Summary, Refusa
     ensures { summary_outcome result ≡ item_summary s.now frame item }
 {
     let visibility = visibility_at(s, item)?;
-let AnnotationHead { type_index, count } = value_bodies::annotation_head(s, value_heads::walk_of(frame, item), item + 1)?;
-Ok(Summary { visibility, type_index, count })
+    let AnnotationHead { type_index, count } = value_bodies::annotation_head(
+        s,
+        value_heads::walk_of(frame, item),
+        item + 1,
+    )?;
+    Ok(Summary {
+        visibility,
+        type_index,
+        count,
+    })
 }
 
 // Element k of the annotation item at a place: its name and its value.
@@ -56,5 +64,5 @@ pub fn annotation_element(s: &[u8], frame: Frame, item: usize, k: u32) -> Result
     ensures { element_outcome result ≡ item_element s.now frame item k }
 {
     visibility_at(s, item)?;
-value_bodies::annotation_element(s, value_heads::walk_of(frame, item), item + 1, k)
+    value_bodies::annotation_element(s, value_heads::walk_of(frame, item), item + 1, k)
 }

@@ -32,7 +32,14 @@ fn is_offset(start: usize, end: usize, absent: bool, four: bool, offset: usize) 
 }
 
 // The offset at a place.
-fn offset_at(s: &[u8], frame: Frame, item: usize, absent: bool, four: bool, at: usize) -> Result<u32, Refusal>
+fn offset_at(
+    s: &[u8],
+    frame: Frame,
+    item: usize,
+    absent: bool,
+    four: bool,
+    at: usize,
+) -> Result<u32, Refusal>
     ensures { word_outcome result ≡ offset_at s.now frame item absent four at }
 {
     let order = frame.order;
@@ -59,22 +66,28 @@ fn offsets_pass(
     let mut at = from;
     for _ in 0..count {
         offset_at(s, frame, item, absent, four, at)?;
-at += 4;
+        at += 4;
     }
     Ok(())
 }
 
 // How many offsets a list has: its size, its length, then its offsets. The going over a set calls this itself and not `set_count`, which has other
 // callers and would not be compiled into it.
-pub fn offset_count(s: &[u8], frame: Frame, item: usize, absent: bool, four: bool) -> Result<u32, Refusal>
+pub fn offset_count(
+    s: &[u8],
+    frame: Frame,
+    item: usize,
+    absent: bool,
+    four: bool,
+) -> Result<u32, Refusal>
     ensures { word_outcome result ≡ offset_count s.now frame item absent four }
 {
     let count = word_at(s, frame, item, item)?;
-if word::has_room(s.len(), item + 4, 4 * count as usize) {
-                offsets_pass(s, frame, item, absent, four, item + 4, count)?;
-return Ok(count);
-            }
-            Err(refusal::runs_past(item))
+    if word::has_room(s.len(), item + 4, 4 * count as usize) {
+        offsets_pass(s, frame, item, absent, four, item + 4, count)?;
+        return Ok(count);
+    }
+    Err(refusal::runs_past(item))
 }
 
 // Number k of a list's offsets.
@@ -89,10 +102,10 @@ fn offset_number(
     ensures { word_outcome result ≡ offset_number s.now frame item absent four k }
 {
     let count = offset_count(s, frame, item, absent, four)?;
-if k < count {
-                return offset_at(s, frame, item, absent, four, item + 4 + 4 * k as usize);
-            }
-            Err(refusal::not_there())
+    if k < count {
+        return offset_at(s, frame, item, absent, four, item + 4 + 4 * k as usize);
+    }
+    Err(refusal::not_there())
 }
 
 // How many annotation items a set has.

@@ -20,7 +20,7 @@ fn items_pass(s: &[u8], frame: Frame, from: usize, count: u32) -> Result<(), Ref
     let mut at = from;
     for _ in 0..count {
         annotation_items::annotation_item(s, frame, word::u32_at(s, at, order) as usize)?;
-at += 4;
+        at += 4;
     }
     Ok(())
 }
@@ -30,7 +30,7 @@ pub fn check_set(s: &[u8], frame: Frame, item: usize) -> Result<(), Refusal>
     ensures { checked_outcome result ≡ set_accepted s.now frame item }
 {
     let count = annotation_lists::offset_count(s, frame, item, false, false)?;
-items_pass(s, frame, item + 4, count)
+    items_pass(s, frame, item + 4, count)
 }
 
 // The set at an offset with all below it, if it is not absent.
@@ -52,7 +52,7 @@ fn sets_pass(s: &[u8], frame: Frame, from: usize, count: u32) -> Result<(), Refu
     let mut at = from;
     for _ in 0..count {
         own_set(s, frame, word::u32_at(s, at, order))?;
-at += 4;
+        at += 4;
     }
     Ok(())
 }
@@ -62,7 +62,7 @@ pub fn check_references(s: &[u8], frame: Frame, item: usize) -> Result<(), Refus
     ensures { checked_outcome result ≡ references_accepted s.now frame item }
 {
     let count = annotation_lists::reference_count(s, frame, item)?;
-sets_pass(s, frame, item + 4, count)
+    sets_pass(s, frame, item + 4, count)
 }
 
 // What an entry leads to: a reference list for a parameter, else a set.
@@ -76,7 +76,13 @@ fn one_below(s: &[u8], frame: Frame, parameter: bool, offset: usize) -> Result<(
 }
 
 // What the entries from a place on lead to.
-fn below_pass(s: &[u8], frame: Frame, parameter: bool, from: usize, count: u32) -> Result<(), Refusal>
+fn below_pass(
+    s: &[u8],
+    frame: Frame,
+    parameter: bool,
+    from: usize,
+    count: u32,
+) -> Result<(), Refusal>
     requires { from + 8 * count ≤ length s.now }
     ensures { checked_outcome result ≡ below_pass s.now frame parameter from count }
 {
@@ -84,7 +90,7 @@ fn below_pass(s: &[u8], frame: Frame, parameter: bool, from: usize, count: u32) 
     let mut at = from;
     for _ in 0..count {
         one_below(s, frame, parameter, word::u32_at(s, at + 4, order) as usize)?;
-at += 8;
+        at += 8;
     }
     Ok(())
 }
@@ -96,15 +102,15 @@ fn lists_below(s: &[u8], frame: Frame, item: usize, h: DirectoryHead) -> Result<
 {
     let methods = item + 16 + 8 * h.fields as usize;
     own_set(s, frame, h.set)?;
-below_pass(s, frame, false, item + 16, h.fields)?;
-below_pass(s, frame, false, methods, h.methods)?;
-below_pass(
-                        s,
-                        frame,
-                        true,
-                        methods + 8 * h.methods as usize,
-                        h.parameters,
-                    )
+    below_pass(s, frame, false, item + 16, h.fields)?;
+    below_pass(s, frame, false, methods, h.methods)?;
+    below_pass(
+        s,
+        frame,
+        true,
+        methods + 8 * h.methods as usize,
+        h.parameters,
+    )
 }
 
 // A directory with all below it.
@@ -112,5 +118,5 @@ pub fn check_directory(s: &[u8], frame: Frame, item: usize) -> Result<(), Refusa
     ensures { checked_outcome result ≡ directory_accepted s.now frame item }
 {
     let h = annotation_directories::directory(s, frame, item)?;
-lists_below(s, frame, item, h)
+    lists_below(s, frame, item, h)
 }

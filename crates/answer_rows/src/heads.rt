@@ -8,8 +8,8 @@ ghost use Rattle.answer_rows.specs.Words.{row, told, told_if, order_word, maybe_
 use super::words;
 use class_ids::Class;
 use header::Header;
-use word::Endian;
 use refusal::Refusal;
+use word::Endian;
 
 fn order_word(order: Endian) -> u64
     ensures { result ≡ order_word order }

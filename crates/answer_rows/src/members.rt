@@ -12,8 +12,8 @@ ghost use Rattle.answer_rows.specs.Words.{counts_words, debug_words, found_words
 
 use super::words;
 use code_item::{HandlerOutline, NumberedTry, Outline};
-use refusal::Refusal;
 use debug_info::DebugOutline;
+use refusal::Refusal;
 
 fn catch_word(a: Option<u32>) -> u64
     ensures { result ≡ option_word (catch_meant a) }
@@ -91,12 +91,7 @@ pub fn found_row(a: Result<Option<Member>, Refusal>) -> [u64; 20]
     match a {
         Err(r) => words::refused(r),
         Ok(None) => words::absent(),
-        Ok(Some(m)) => words::four(
-            m.index as u64,
-            m.flags as u64,
-            m.code as u64,
-            0,
-        ),
+        Ok(Some(m)) => words::four(m.index as u64, m.flags as u64, m.code as u64, 0),
     }
 }
 
@@ -166,7 +161,16 @@ pub fn debug_row(a: Result<Option<DebugOutline>, Refusal>) -> [u64; 20]
     match a {
         Err(r) => words::refused(r),
         Ok(None) => words::absent(),
-        Ok(Some(DebugOutline { line, names, start, length })) => words::four(line as u64, names as u64, start as u64, length as u64),
+        Ok(
+            Some(
+                DebugOutline {
+                    line,
+                    names,
+                    start,
+                    length,
+                },
+            ),
+        ) => words::four(line as u64, names as u64, start as u64, length as u64),
     }
 }
 

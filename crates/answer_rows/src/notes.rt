@@ -8,9 +8,9 @@ ghost use Rattle.annotation_items.specs.Answers.{summary_outcome as annotation-o
 ghost use Rattle.answer_rows.specs.Words.{annotation_words, directory_words, no_words, number_words, place_words, told, told_if};
 
 use super::words;
-use refusal::Refusal;
-use annotation_items::Summary;
 use annotation_directories::DirectoryEntry;
+use annotation_items::Summary;
+use refusal::Refusal;
 
 pub fn checked_row(a: Result<(), Refusal>) -> [u64; 20]
     ensures { result ≡ told no_words (checked_outcome a) }
@@ -41,12 +41,7 @@ pub fn place_row(a: Result<DirectoryEntry, Refusal>) -> [u64; 20]
 {
     match a {
         Err(r) => words::refused(r),
-        Ok(DirectoryEntry { index, offset }) => words::four(
-            index as u64,
-            offset as u64,
-            0,
-            0,
-        ),
+        Ok(DirectoryEntry { index, offset }) => words::four(index as u64, offset as u64, 0, 0),
     }
 }
 
@@ -64,6 +59,12 @@ pub fn annotation_row(a: Result<Summary, Refusal>) -> [u64; 20]
 {
     match a {
         Err(r) => words::refused(r),
-        Ok(Summary { visibility, type_index, count }) => words::four(visibility as u64, type_index as u64, count as u64, 0),
+        Ok(
+            Summary {
+                visibility,
+                type_index,
+                count,
+            },
+        ) => words::four(visibility as u64, type_index as u64, count as u64, 0),
     }
 }

@@ -20,10 +20,10 @@ ghost use Rattle.answer_rows.specs.Words.{array_words, body_words, element_words
 
 use super::words;
 use refusal::Refusal;
+use static_fields::{StaticField, WrongKind};
 use text::TextPlace;
 use value_bodies::Element;
 use value_readers::{ArrayOutline, BodyOutline};
-use static_fields::{StaticField, WrongKind};
 
 pub fn count_row(a: Result<u32, Refusal>) -> [u64; 20]
     ensures { result ≡ told number_words (count_outcome a) }
@@ -39,12 +39,7 @@ pub fn entry_row(a: Result<MapEntry, Refusal>) -> [u64; 20]
 {
     match a {
         Err(r) => words::refused(r),
-        Ok(e) => words::four(
-            e.kind as u64,
-            e.size as u64,
-            e.offset as u64,
-            0,
-        ),
+        Ok(e) => words::four(e.kind as u64, e.size as u64, e.offset as u64, 0),
     }
 }
 
@@ -62,7 +57,13 @@ pub fn text_row(a: Result<TextPlace, Refusal>) -> [u64; 20]
 {
     match a {
         Err(r) => words::refused(r),
-        Ok(TextPlace { start, length, units }) => words::four(start as u64, length as u64, units as u64, 0),
+        Ok(
+            TextPlace {
+                start,
+                length,
+                units,
+            },
+        ) => words::four(start as u64, length as u64, units as u64, 0),
     }
 }
 
@@ -130,12 +131,7 @@ pub fn array_row(a: Result<ArrayOutline, Refusal>) -> [u64; 20]
 {
     match a {
         Err(r) => words::refused(r),
-        Ok(ArrayOutline { count, length }) => words::four(
-            count as u64,
-            length as u64,
-            0,
-            0,
-        ),
+        Ok(ArrayOutline { count, length }) => words::four(count as u64, length as u64, 0, 0),
     }
 }
 
@@ -144,7 +140,13 @@ pub fn body_row(a: Result<BodyOutline, Refusal>) -> [u64; 20]
 {
     match a {
         Err(r) => words::refused(r),
-        Ok(BodyOutline { type_index, count, length }) => words::four(type_index as u64, count as u64, length as u64, 0),
+        Ok(
+            BodyOutline {
+                type_index,
+                count,
+                length,
+            },
+        ) => words::four(type_index as u64, count as u64, length as u64, 0),
     }
 }
 
@@ -181,7 +183,16 @@ pub fn static_row(a: Result<Option<StaticField>, Refusal>) -> [u64; 20]
     match a {
         Err(r) => words::refused(r),
         Ok(None) => words::absent(),
-        Ok(Some(StaticField { field, flags, stored, value })) => words::paired(value, field, flags, stored),
+        Ok(
+            Some(
+                StaticField {
+                    field,
+                    flags,
+                    stored,
+                    value,
+                },
+            ),
+        ) => words::paired(value, field, flags, stored),
     }
 }
 
@@ -191,11 +202,6 @@ pub fn wrong_row(a: Result<Option<WrongKind>, Refusal>) -> [u64; 20]
     match a {
         Err(r) => words::refused(r),
         Ok(None) => words::absent(),
-        Ok(Some(WrongKind { k, field })) => words::four(
-            k as u64,
-            field as u64,
-            0,
-            0,
-        ),
+        Ok(Some(WrongKind { k, field })) => words::four(k as u64, field as u64, 0, 0),
     }
 }

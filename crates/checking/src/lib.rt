@@ -11,10 +11,10 @@ mod reasons;
 
 pub use outputs::{close_output, write_output};
 pub use reasons::tell_why;
+use refusal::{Read, Refusal};
 use std::env::{Env, FillError};
 use std::fs::Files;
 use std::io::Read;
-use refusal::{Read, Refusal};
 
 // One byte more than is taken, so that an input that is too long is known to be.
 pub const ROOM: usize = 65537;
@@ -109,7 +109,12 @@ fn refuse_name(name: &[u8]) -> u8
 }
 
 // Writes what goes out for an input with this verdict, in one piece; `what` is said on standard error, `name` on standard output.
-pub fn write_report(rt: &(impl Env + Print), verdict: Result<Header, Refusal>, what: &[u8], name: &[u8]) -> u8
+pub fn write_report(
+    rt: &(impl Env + Print),
+    verdict: Result<Header, Refusal>,
+    what: &[u8],
+    name: &[u8],
+) -> u8
     ensures { Tells (verdict_outcome verdict) result }
 {
     let mut out = [0u8; OUT];

@@ -20,4 +20,3 @@ pub struct Spot {
     pub header: Header,
     pub place: u32,
 }
-

@@ -3,7 +3,7 @@ ghost use Rattle.std.specs.Prelude.{◌≡◌, length};
 ghost use Rattle.class_readers.specs.Members.{counts_under, class_data, member_under, member_number, member_flags, member_content};
 ghost use Rattle.class_readers.specs.Answers.{maybe_data, maybe_member, maybe_count};
 
-use super::{Result<Option<usize>, Refusal>, Result<Option<Counts>, Refusal>, Result<Option<Member>, Refusal>, Spot, Result<Option<Spot>, Refusal>};
+use super::Spot;
 use refusal::{Read, Refusal};
 
 fn counts_under(f: &[u8], spot: Spot) -> Result<Option<Counts>, Refusal>
@@ -15,18 +15,17 @@ fn counts_under(f: &[u8], spot: Spot) -> Result<Option<Counts>, Refusal>
         header::plain_frame(header),
         spot.place as usize,
     )?;
-Ok(Some(counts))
+    Ok(Some(counts))
 }
 
 // How many members the four lists of class c have.
 pub fn class_data(f: &[u8], c: u32) -> Result<Option<Counts>, Refusal>
     ensures { maybe_data result ≡ class_data f.now c }
 {
-    match super::spots::data_spot(f, c) {
-        Err(r) => Err(r),
-        Ok(None) => Ok(None),
-        Ok(Some(spot)) => counts_under(f, spot),
-    }
+    let Some(spot) = super::spots::data_spot(f, c)? else {
+        return Ok(None);
+    };
+    counts_under(f, spot)
 }
 
 fn member_under(f: &[u8], spot: Spot, list: u32, k: u32) -> Result<Option<Member>, Refusal>
@@ -40,31 +39,33 @@ fn member_under(f: &[u8], spot: Spot, list: u32, k: u32) -> Result<Option<Member
         list,
         k,
     )?;
-Ok(Some(m))
+    Ok(Some(m))
 }
 
 // Member k of a list of class c: its index, its access flags, and the offset of its code, 0 for a field.
 pub fn member(f: &[u8], c: u32, list: u32, k: u32) -> Result<Option<Member>, Refusal>
     ensures { maybe_member result ≡ member_number f.now c list k }
 {
-    match super::spots::data_spot(f, c) {
-        Err(r) => Err(r),
-        Ok(None) => Ok(None),
-        Ok(Some(spot)) => member_under(f, spot, list, k),
-    }
+    let Some(spot) = super::spots::data_spot(f, c)? else {
+        return Ok(None);
+    };
+    member_under(f, spot, list, k)
 }
 
 // Its access flags as bit numbers in a lent output: how many; 19, writing nothing, where the output is shorter.
-pub fn member_flags(f: &[u8], c: u32, list: u32, k: u32, out: &mut [u8]) -> Result<Option<usize>, Refusal>
+pub fn member_flags(
+    f: &[u8],
+    c: u32,
+    list: u32,
+    k: u32,
+    out: &mut [u8],
+) -> Result<Option<usize>, Refusal>
     ensures answer { maybe_count result ≡ member_flags f.now c list k (length out.old) }
     ensures content { out.new ≡ member_content f.now c list k out.old }
 {
-    match member(f, c, list, k) {
-        Err(r) => Err(r),
-        Ok(None) => Ok(None),
-        Ok(Some(m)) => {
-let n = access_flags::flags_into(m.flags, false, out)?;
-Ok(Some(n))
-}
-    }
+    let Some(m) = member(f, c, list, k)? else {
+        return Ok(None);
+    };
+    let n = access_flags::flags_into(m.flags, false, out)?;
+    Ok(Some(n))
 }

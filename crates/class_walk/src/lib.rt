@@ -22,7 +22,7 @@ fn debug_below(s: &[u8], strings: u32, offset: u32) -> Result<(), Refusal>
         return Ok(());
     }
     debug_info::debug_at(s, strings, offset as usize)?;
-Ok(())
+    Ok(())
 }
 
 // A code item and its debug information.
@@ -30,8 +30,8 @@ fn check_body(s: &[u8], frame: Frame, item: usize) -> Result<(), Refusal>
     ensures { checked_outcome result ≡ body_accepted s.now frame item }
 {
     let o = code_item::code_at(s, frame, item)?;
-let head = o.head;
-            debug_below(s, frame.strings, head.debug)
+    let head = o.head;
+    debug_below(s, frame.strings, head.debug)
 }
 
 // The body of a method, if it is not absent.
@@ -45,7 +45,13 @@ fn method_below(s: &[u8], frame: Frame, code: u32) -> Result<(), Refusal>
 }
 
 // A list of methods once more, with the body of each.
-fn methods_pass(s: &[u8], frame: Frame, item: usize, from: usize, count: u32) -> Result<usize, Refusal>
+fn methods_pass(
+    s: &[u8],
+    frame: Frame,
+    item: usize,
+    from: usize,
+    count: u32,
+) -> Result<usize, Refusal>
     ensures { passed_outcome result ≡ methods_pass s.now frame item from count }
 {
     let judge = MemberJudge {
@@ -57,10 +63,13 @@ fn methods_pass(s: &[u8], frame: Frame, item: usize, from: usize, count: u32) ->
     let mut base: u32 = 0;
     let mut later = false;
     for _ in 0..count {
-        let Read { value: member, next } = class_members::member_found(s, judge, item, base, later, p)?;
-method_below(s, frame, member.code)?;
-base = member.index;
-                    p = next;
+        let Read {
+            value: member,
+            next,
+        } = class_members::member_found(s, judge, item, base, later, p)?;
+        method_below(s, frame, member.code)?;
+        base = member.index;
+        p = next;
         later = true;
     }
     Ok(p)
@@ -71,8 +80,8 @@ fn both_pass(s: &[u8], frame: Frame, item: usize, m: Methods) -> Result<(), Refu
     ensures { checked_outcome result ≡ both_pass s.now frame item m }
 {
     let middle = methods_pass(s, frame, item, m.from, m.directs)?;
-methods_pass(s, frame, item, middle, m.virtuals)?;
-Ok(())
+    methods_pass(s, frame, item, middle, m.virtuals)?;
+    Ok(())
 }
 
 // Class data with all below it.
@@ -80,7 +89,7 @@ fn check_data(s: &[u8], frame: Frame, item: usize) -> Result<(), Refusal>
     ensures { checked_outcome result ≡ data_accepted s.now frame item }
 {
     let m = class_data::methods_at(s, frame, item)?;
-both_pass(s, frame, item, m)
+    both_pass(s, frame, item, m)
 }
 
 fn annotations_below(f: &[u8], header: Header, handles: u32, at: u32) -> Result<(), Refusal>
@@ -118,7 +127,7 @@ fn values_below(f: &[u8], header: Header, handles: u32, at: u32) -> Result<(), R
     let place = at as usize;
     let walk = value_heads::walk_of(header::frame_of(header, handles), place);
     encoded_value::top_array(header::up_to_end(f, header), walk, place)?;
-Ok(())
+    Ok(())
 }
 
 // What the four offsets of a class lead to, in stored order but for the static values, which come last.
@@ -134,9 +143,9 @@ fn below_pass(
     ensures { checked_outcome result ≡ below_pass f.now header handles interfaces directory members values }
 {
     type_list::check_types(f, header, interfaces)?;
-annotations_below(f, header, handles, directory)?;
-data_below(f, header, members)?;
-values_below(f, header, handles, values)
+    annotations_below(f, header, handles, directory)?;
+    data_below(f, header, members)?;
+    values_below(f, header, handles, values)
 }
 
 // The number that an item begins with, 0 where the item is absent: of class data how many static fields it has, of an array how many values.
@@ -153,7 +162,13 @@ fn first_number(s: &[u8], at: u32) -> u32
 }
 
 // No more static values than static fields, of class data and an array that were gone over: 21 at the class record.
-fn check_fit(f: &[u8], header: Header, place: usize, members: u32, values: u32) -> Result<(), Refusal>
+fn check_fit(
+    f: &[u8],
+    header: Header,
+    place: usize,
+    members: u32,
+    values: u32,
+) -> Result<(), Refusal>
     ensures { checked_outcome result ≡ fit_pass f.now header place members values }
 {
     let s = header::up_to_end(f, header);
@@ -171,20 +186,20 @@ pub fn check_class(f: &[u8], header: Header, handles: u32, n: u32) -> Result<(),
 {
     let t = header.classes;
     let c = class_ids::class_at(f, header::plain_frame(header), header.end, t.offset, n)?;
-below_pass(
-            f,
-            header,
-            handles,
-            c.interfaces,
-            c.directory,
-            c.data,
-            c.values,
-        )?;
-check_fit(
-                f,
-                header,
-                t.offset as usize + 32 * n as usize,
-                c.data,
-                c.values,
-            )
+    below_pass(
+        f,
+        header,
+        handles,
+        c.interfaces,
+        c.directory,
+        c.data,
+        c.values,
+    )?;
+    check_fit(
+        f,
+        header,
+        t.offset as usize + 32 * n as usize,
+        c.data,
+        c.values,
+    )
 }

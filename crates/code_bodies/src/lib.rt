@@ -114,14 +114,14 @@ fn links_at(
         let mut p = first;
         for number in 0..handlers {
             let Read { value: brief, next } = handlers::handler_found(s, j, p, 0)?;
-if brief.offset == want {
-                        kept = refusal::newer(i == k, number, kept);
-                        place += 8;
-                        i += 1;
-                        left -= 1;
-                        continue 'tries;
-                    }
-                    p = next;
+            if brief.offset == want {
+                kept = refusal::newer(i == k, number, kept);
+                place += 8;
+                i += 1;
+                left -= 1;
+                continue 'tries;
+            }
+            p = next;
         }
         return Err(refusal::wrong_code(j.item));
     }
@@ -143,9 +143,23 @@ fn linked_at(
     requires { from + 8 * head.tries ≤ length s.now }
     ensures { kept_code_outcome result ≡ linked_stage s.now order j head attempt from t h k }
 {
-    let HandlerList { count, brief, first, end } = handlers::handlers_at(s, j, h, k)?;
-let link = links_at(s, order, j, first, count, from, head.tries, t)?;
-Ok(KeptCode { head, attempt, link, handlers: count, brief, from, base: j.base, end })
+    let HandlerList {
+        count,
+        brief,
+        first,
+        end,
+    } = handlers::handlers_at(s, j, h, k)?;
+    let link = links_at(s, order, j, first, count, from, head.tries, t)?;
+    Ok(KeptCode {
+        head,
+        attempt,
+        link,
+        handlers: count,
+        brief,
+        from,
+        base: j.base,
+        end,
+    })
 }
 
 // Without tries there is no handler list.
@@ -167,7 +181,12 @@ fn listed_at(
     if 0 < tries {
         return linked_at(s, order, j, head, attempt, from, t, h, k);
     }
-    Ok(KeptCode { head, attempt, link: 0, handlers: 0, brief: Brief {
+    Ok(KeptCode {
+        head,
+        attempt,
+        link: 0,
+        handlers: 0,
+        brief: Brief {
             offset: 0,
             pairs: 0,
             pair: Pair {
@@ -175,7 +194,11 @@ fn listed_at(
                 address: 0,
             },
             all: None,
-        }, from, base: j.base, end: j.base })
+        },
+        from,
+        base: j.base,
+        end: j.base,
+    })
 }
 
 // The tries, and what follows them.
@@ -193,7 +216,7 @@ fn parts_at(
     ensures { kept_code_outcome result ≡ parts_stage s.now order j head from t h k }
 {
     let attempt = tries_found(s, order, head.units, j.item, from, head.tries, t)?;
-listed_at(s, order, j, head, attempt, from, t, h, k)
+    listed_at(s, order, j, head, attempt, from, t, h, k)
 }
 
 // What follows the head: its length first, up to the handler list.
@@ -231,9 +254,16 @@ fn body_at(
 }
 
 // The whole, of which try t with its handler's number, and pair k of handler h, are kept.
-pub fn kept_at(s: &[u8], frame: Frame, item: usize, t: u32, h: u32, k: u32) -> Result<KeptCode, Refusal>
+pub fn kept_at(
+    s: &[u8],
+    frame: Frame,
+    item: usize,
+    t: u32,
+    h: u32,
+    k: u32,
+) -> Result<KeptCode, Refusal>
     ensures { kept_code_outcome result ≡ kept_code_at s.now frame item t h k }
 {
     let head = code_heads::head_at(s, frame, item)?;
-body_at(s, frame, item, head, t, h, k)
+    body_at(s, frame, item, head, t, h, k)
 }

@@ -42,25 +42,40 @@ pub struct HandlerOutline {
 pub fn code_at(s: &[u8], frame: Frame, item: usize) -> Result<Outline, Refusal>
     ensures { code_outcome result ≡ outline_at s.now frame item }
 {
-    let KeptCode { head, handlers, from, base, end, .. } = code_bodies::kept_at(s, frame, item, 0, 0, 0)?;
-Ok(Outline {
-            head,
-            handlers,
-            from,
-            base,
-            end,
-        })
+    let KeptCode {
+        head,
+        handlers,
+        from,
+        base,
+        end,
+        ..
+    } = code_bodies::kept_at(s, frame, item, 0, 0, 0)?;
+    Ok(Outline {
+        head,
+        handlers,
+        from,
+        base,
+        end,
+    })
 }
 
 // Try t of the code item at a place.
 pub fn try_at(s: &[u8], frame: Frame, item: usize, t: u32) -> Result<NumberedTry, Refusal>
     ensures { try_outcome result ≡ try_of s.now frame item t }
 {
-    let KeptCode { head, attempt, link, .. } = code_bodies::kept_at(s, frame, item, t, 0, 0)?;
-if t < head.tries as u32 {
-                return Ok(NumberedTry { attempt, number: link });
-            }
-            Err(refusal::not_there())
+    let KeptCode {
+        head,
+        attempt,
+        link,
+        ..
+    } = code_bodies::kept_at(s, frame, item, t, 0, 0)?;
+    if t < head.tries as u32 {
+        return Ok(NumberedTry {
+            attempt,
+            number: link,
+        });
+    }
+    Err(refusal::not_there())
 }
 
 // The catch-all of a handler.
@@ -77,11 +92,19 @@ fn catch_in(b: Brief) -> Option<u32>
 pub fn handler_at(s: &[u8], frame: Frame, item: usize, h: u32) -> Result<HandlerOutline, Refusal>
     ensures { handler_outcome result ≡ handler_of s.now frame item h }
 {
-    let KeptCode { handlers, brief, .. } = code_bodies::kept_at(s, frame, item, 0, h, 0)?;
-if h < handlers {
-                return Ok(HandlerOutline { offset: brief.offset, pairs: brief.pairs, all: catch_in(brief) });
-            }
-            Err(refusal::not_there())
+    let KeptCode {
+        handlers,
+        brief,
+        ..
+    } = code_bodies::kept_at(s, frame, item, 0, h, 0)?;
+    if h < handlers {
+        return Ok(HandlerOutline {
+            offset: brief.offset,
+            pairs: brief.pairs,
+            all: catch_in(brief),
+        });
+    }
+    Err(refusal::not_there())
 }
 
 // The pair that is kept of a handler, where it is there.
@@ -99,11 +122,15 @@ fn pair_in(b: Brief, k: u32) -> Result<Pair, Refusal>
 pub fn pair_at(s: &[u8], frame: Frame, item: usize, h: u32, k: u32) -> Result<Pair, Refusal>
     ensures { pair_outcome result ≡ pair_of s.now frame item h k }
 {
-    let KeptCode { handlers, brief, .. } = code_bodies::kept_at(s, frame, item, 0, h, k)?;
-if h < handlers {
-                return pair_in(brief, k);
-            }
-            Err(refusal::not_there())
+    let KeptCode {
+        handlers,
+        brief,
+        ..
+    } = code_bodies::kept_at(s, frame, item, 0, h, k)?;
+    if h < handlers {
+        return pair_in(brief, k);
+    }
+    Err(refusal::not_there())
 }
 
 // Does a try of `count` units from `start` on cover an address.
@@ -134,10 +161,15 @@ fn cover_at(s: &[u8], order: Endian, from: usize, count: u16, address: u32) -> O
 }
 
 // The try that covers an address, of the code item at a place.
-pub fn covering_try(s: &[u8], frame: Frame, item: usize, address: u32) -> Result<Option<u32>, Refusal>
+pub fn covering_try(
+    s: &[u8],
+    frame: Frame,
+    item: usize,
+    address: u32,
+) -> Result<Option<u32>, Refusal>
     ensures { cover_outcome result ≡ covering_of s.now frame item address }
 {
     let order = frame.order;
     let KeptCode { head, from, .. } = code_bodies::kept_at(s, frame, item, 0, 0, 0)?;
-Ok(cover_at(s, order, from, head.tries, address))
+    Ok(cover_at(s, order, from, head.tries, address))
 }

@@ -9,4 +9,3 @@ use refusal::Refusal;
 mod methods;
 
 pub use methods::{code, covering_try, handler, handler_count, handler_pair, try_item, units};
-

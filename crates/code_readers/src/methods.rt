@@ -6,10 +6,9 @@ ghost use Rattle.code_readers.specs.Code.{units_into, units_written, units_under
 ghost use Rattle.class_readers.specs.Answers.{maybe_count};
 ghost use Rattle.code_readers.specs.Answers.{maybe_code, maybe_try, maybe_handler, maybe_pair};
 
-use super::{Result<Option<Outline>, Refusal>, Result<Option<HandlerOutline>, Refusal>, Result<Option<Pair>, Refusal>, Result<Option<NumberedTry>, Refusal>};
 use class_readers::Spot;
-use refusal::Refusal;
 use code_item::{HandlerOutline, NumberedTry};
+use refusal::Refusal;
 
 fn outline_under(f: &[u8], spot: Spot) -> Result<Option<Outline>, Refusal>
     ensures { maybe_code result ≡ outline_under f.now spot }
@@ -20,29 +19,27 @@ fn outline_under(f: &[u8], spot: Spot) -> Result<Option<Outline>, Refusal>
         header::plain_frame(header),
         spot.place as usize,
     )?;
-Ok(Some(o))
+    Ok(Some(o))
 }
 
 // The sizes, counts and places of the code of method k of a list of class c.
 pub fn code(f: &[u8], c: u32, list: u32, k: u32) -> Result<Option<Outline>, Refusal>
     ensures { maybe_code result ≡ method_code f.now c list k }
 {
-    match class_readers::method_spot(f, c, list, k) {
-        Err(r) => Err(r),
-        Ok(None) => Ok(None),
-        Ok(Some(spot)) => outline_under(f, spot),
-    }
+    let Some(spot) = class_readers::method_spot(f, c, list, k)? else {
+        return Ok(None);
+    };
+    outline_under(f, spot)
 }
 
 // How many handlers it has.
 pub fn handler_count(f: &[u8], c: u32, list: u32, k: u32) -> Result<Option<usize>, Refusal>
     ensures { maybe_count result ≡ handler_count f.now c list k }
 {
-    match code(f, c, list, k) {
-        Err(r) => Err(r),
-        Ok(None) => Ok(None),
-        Ok(Some(o)) => Ok(Some(o.handlers as usize)),
-    }
+    let Some(o) = code(f, c, list, k)? else {
+        return Ok(None);
+    };
+    Ok(Some(o.handlers as usize))
 }
 
 fn try_under(f: &[u8], spot: Spot, t: u32) -> Result<Option<NumberedTry>, Refusal>
@@ -55,18 +52,17 @@ fn try_under(f: &[u8], spot: Spot, t: u32) -> Result<Option<NumberedTry>, Refusa
         spot.place as usize,
         t,
     )?;
-Ok(Some(NumberedTry { attempt, number }))
+    Ok(Some(NumberedTry { attempt, number }))
 }
 
 // Try t of it.
 pub fn try_item(f: &[u8], c: u32, list: u32, k: u32, t: u32) -> Result<Option<NumberedTry>, Refusal>
     ensures { maybe_try result ≡ try_number f.now c list k t }
 {
-    match class_readers::method_spot(f, c, list, k) {
-        Err(r) => Err(r),
-        Ok(None) => Ok(None),
-        Ok(Some(spot)) => try_under(f, spot, t),
-    }
+    let Some(spot) = class_readers::method_spot(f, c, list, k)? else {
+        return Ok(None);
+    };
+    try_under(f, spot, t)
 }
 
 fn cover_under(f: &[u8], spot: Spot, address: u32) -> Result<Option<u32>, Refusal>
@@ -82,14 +78,19 @@ fn cover_under(f: &[u8], spot: Spot, address: u32) -> Result<Option<u32>, Refusa
 }
 
 // The number of its try that covers an address; where there is no code, no try does.
-pub fn covering_try(f: &[u8], c: u32, list: u32, k: u32, address: u32) -> Result<Option<u32>, Refusal>
+pub fn covering_try(
+    f: &[u8],
+    c: u32,
+    list: u32,
+    k: u32,
+    address: u32,
+) -> Result<Option<u32>, Refusal>
     ensures { cover_outcome result ≡ covering_try f.now c list k address }
 {
-    match class_readers::method_spot(f, c, list, k) {
-        Err(r) => Err(r),
-        Ok(None) => Ok(None),
-        Ok(Some(spot)) => cover_under(f, spot, address),
-    }
+    let Some(spot) = class_readers::method_spot(f, c, list, k)? else {
+        return Ok(None);
+    };
+    cover_under(f, spot, address)
 }
 
 fn handler_under(f: &[u8], spot: Spot, number: u32) -> Result<Option<HandlerOutline>, Refusal>
@@ -102,18 +103,23 @@ fn handler_under(f: &[u8], spot: Spot, number: u32) -> Result<Option<HandlerOutl
         spot.place as usize,
         number,
     )?;
-Ok(Some(HandlerOutline { offset, pairs, all }))
+    Ok(Some(HandlerOutline { offset, pairs, all }))
 }
 
 // A handler of it.
-pub fn handler(f: &[u8], c: u32, list: u32, k: u32, number: u32) -> Result<Option<HandlerOutline>, Refusal>
+pub fn handler(
+    f: &[u8],
+    c: u32,
+    list: u32,
+    k: u32,
+    number: u32,
+) -> Result<Option<HandlerOutline>, Refusal>
     ensures { maybe_handler result ≡ handler_number f.now c list k number }
 {
-    match class_readers::method_spot(f, c, list, k) {
-        Err(r) => Err(r),
-        Ok(None) => Ok(None),
-        Ok(Some(spot)) => handler_under(f, spot, number),
-    }
+    let Some(spot) = class_readers::method_spot(f, c, list, k)? else {
+        return Ok(None);
+    };
+    handler_under(f, spot, number)
 }
 
 fn pair_under(f: &[u8], spot: Spot, number: u32, p: u32) -> Result<Option<Pair>, Refusal>
@@ -127,18 +133,24 @@ fn pair_under(f: &[u8], spot: Spot, number: u32, p: u32) -> Result<Option<Pair>,
         number,
         p,
     )?;
-Ok(Some(pair))
+    Ok(Some(pair))
 }
 
 // Pair p of a handler of it.
-pub fn handler_pair(f: &[u8], c: u32, list: u32, k: u32, number: u32, p: u32) -> Result<Option<Pair>, Refusal>
+pub fn handler_pair(
+    f: &[u8],
+    c: u32,
+    list: u32,
+    k: u32,
+    number: u32,
+    p: u32,
+) -> Result<Option<Pair>, Refusal>
     ensures { maybe_pair result ≡ handler_pair f.now c list k number p }
 {
-    match class_readers::method_spot(f, c, list, k) {
-        Err(r) => Err(r),
-        Ok(None) => Ok(None),
-        Ok(Some(spot)) => pair_under(f, spot, number, p),
-    }
+    let Some(spot) = class_readers::method_spot(f, c, list, k)? else {
+        return Ok(None);
+    };
+    pair_under(f, spot, number, p)
 }
 
 // So many units of the code at a place.
@@ -155,7 +167,7 @@ fn units_into(f: &[u8], spot: Spot, count: u32, out: &mut [u16]) -> Result<Optio
         count,
         out,
     )?;
-Ok(Some(n as usize))
+    Ok(Some(n as usize))
 }
 
 fn units_under(f: &[u8], spot: Spot, out: &mut [u16]) -> Result<Option<usize>, Refusal>
@@ -168,8 +180,8 @@ fn units_under(f: &[u8], spot: Spot, out: &mut [u16]) -> Result<Option<usize>, R
         header::plain_frame(header),
         spot.place as usize,
     )?;
-let head = o.head;
-            units_into(f, spot, head.units, out)
+    let head = o.head;
+    units_into(f, spot, head.units, out)
 }
 
 // Its units in a lent output: how many; 19, writing nothing, where the output is shorter.
@@ -177,9 +189,8 @@ pub fn units(f: &[u8], c: u32, list: u32, k: u32, out: &mut [u16]) -> Result<Opt
     ensures answer { maybe_count result ≡ method_units f.now c list k (length out.old) }
     ensures content { out.new ≡ units_content f.now c list k out.old }
 {
-    match class_readers::method_spot(f, c, list, k) {
-        Err(r) => Err(r),
-        Ok(None) => Ok(None),
-        Ok(Some(spot)) => units_under(f, spot, out),
-    }
+    let Some(spot) = class_readers::method_spot(f, c, list, k)? else {
+        return Ok(None);
+    };
+    units_under(f, spot, out)
 }

@@ -22,7 +22,13 @@ fn fill(s: &[u8], order: Endian, start: usize, count: u32, out: &mut [u16])
 }
 
 // `count` units from `start` on: 9 at `start` where the slice ends before them, 19 where the output is shorter. A refusal writes nothing.
-pub fn units_into(s: &[u8], order: Endian, start: usize, count: u32, out: &mut [u16]) -> Result<u32, Refusal>
+pub fn units_into(
+    s: &[u8],
+    order: Endian,
+    start: usize,
+    count: u32,
+    out: &mut [u16],
+) -> Result<u32, Refusal>
     ensures answer { units_outcome result ≡ into_at (length s.now) start count (length out.old) }
     ensures wrote { out.new ≡ left_at order s.now start count out.old }
 {

@@ -41,17 +41,27 @@ fn name_found(s: &[u8], strings: u32, item: usize, at: usize) -> Result<Read<Opt
 }
 
 // All names, of which number k is kept.
-fn names_at(s: &[u8], strings: u32, item: usize, from: usize, count: u32, k: u32) -> Result<Read<Option<u32>>, Refusal>
+fn names_at(
+    s: &[u8],
+    strings: u32,
+    item: usize,
+    from: usize,
+    count: u32,
+    k: u32,
+) -> Result<Read<Option<u32>>, Refusal>
     ensures { name_found_outcome result ≡ kept_names s.now strings item from count k }
 {
     let mut p = from;
     let mut kept = None;
     for i in 0..count {
         let Read { value: name, next } = name_found(s, strings, item, p)?;
-kept = refusal::newer(i == k, name, kept);
-                p = next;
+        kept = refusal::newer(i == k, name, kept);
+        p = next;
     }
-    Ok(Read { value: kept, next: p })
+    Ok(Read {
+        value: kept,
+        next: p,
+    })
 }
 
 // The first zero byte from `start` on.
@@ -82,8 +92,14 @@ fn body_at(
     ensures { kept_debug_outcome result ≡ body_at s.now strings item line from count k }
 {
     let Read { value: name, next } = names_at(s, strings, item, from, count, k)?;
-let zero = zero_at(s, item, next)?;
-Ok(KeptDebug { line, names: count, name, start: next, length: zero - next })
+    let zero = zero_at(s, item, next)?;
+    Ok(KeptDebug {
+        line,
+        names: count,
+        name,
+        start: next,
+        length: zero - next,
+    })
 }
 
 // The whole, of which name k is kept.
@@ -91,16 +107,30 @@ fn kept_at(s: &[u8], strings: u32, item: usize, k: u32) -> Result<KeptDebug, Ref
     ensures { kept_debug_outcome result ≡ kept_debug_at s.now strings item k }
 {
     let Read { value: line, next } = leb128::uleb(s, item, item)?;
-let Read { value: count, next: from } = leb128::uleb(s, next, item)?;
-body_at(s, strings, item, line, from, count, k)
+    let Read {
+        value: count,
+        next: from,
+    } = leb128::uleb(s, next, item)?;
+    body_at(s, strings, item, line, from, count, k)
 }
 
 // The debug information at a place.
 pub fn debug_at(s: &[u8], strings: u32, item: usize) -> Result<DebugOutline, Refusal>
     ensures { debug_outcome result ≡ extent_at s.now strings item }
 {
-    let KeptDebug { line, names, start, length, .. } = kept_at(s, strings, item, 0)?;
-Ok(DebugOutline { line, names, start, length })
+    let KeptDebug {
+        line,
+        names,
+        start,
+        length,
+        ..
+    } = kept_at(s, strings, item, 0)?;
+    Ok(DebugOutline {
+        line,
+        names,
+        start,
+        length,
+    })
 }
 
 // Option<u32> k of the debug information at a place.
@@ -108,8 +138,8 @@ pub fn name_at(s: &[u8], strings: u32, item: usize, k: u32) -> Result<Option<u32
     ensures { name_outcome result ≡ name_of s.now strings item k }
 {
     let KeptDebug { names, name, .. } = kept_at(s, strings, item, k)?;
-if k < names {
-                return Ok(name);
-            }
-            Err(refusal::not_there())
+    if k < names {
+        return Ok(name);
+    }
+    Err(refusal::not_there())
 }

@@ -6,4 +6,3 @@ use refusal::Refusal;
 mod lines;
 
 pub use lines::{debug, debug_parameter, line_program};
-

@@ -196,10 +196,13 @@ fn array_at(s: &[u8], w: Walk, at: usize, left: u32) -> Result<Read<Value>, Refu
     ensures { decoded_outcome result ≡ decoded_array s.now w left (at + 1) }
 {
     let next = encoded_value::array_body(s, w, at + 1, left)?;
-Ok(Read { value: Value::Array {
-                offset: at + 1,
-                length: next - at - 1,
-            }, next })
+    Ok(Read {
+        value: Value::Array {
+            offset: at + 1,
+            length: next - at - 1,
+        },
+        next,
+    })
 }
 
 // The same for a nested annotation.
@@ -208,10 +211,13 @@ fn annotation_at(s: &[u8], w: Walk, at: usize, left: u32) -> Result<Read<Value>,
     ensures { decoded_outcome result ≡ decoded_annotation s.now w left (at + 1) }
 {
     let end = encoded_value::annotation_body(s, w, at + 1, left)?;
-Ok(Read { value: Value::Annotation {
-                offset: at + 1,
-                length: end - at - 1,
-            }, next: end })
+    Ok(Read {
+        value: Value::Annotation {
+            offset: at + 1,
+            length: end - at - 1,
+        },
+        next: end,
+    })
 }
 
 // The value at a place where so many bodies may still be opened.
@@ -219,13 +225,16 @@ pub fn decode_at(s: &[u8], w: Walk, at: usize, left: u32) -> Result<Read<Value>,
     ensures { decoded_outcome result ≡ decoded_at s.now w left at }
 {
     let head = value_heads::head_at(s, w.item, at)?;
-let code = head % 32;
-            if code == 0x1c {
-                return array_at(s, w, at, left);
-            }
-            if code == 0x1d {
-                return annotation_at(s, w, at, left);
-            }
-            let Read { value, next } = value_heads::checked_number(s, w, at + 1, head)?;
-Ok(Read { value: plain_of(head, value), next })
+    let code = head % 32;
+    if code == 0x1c {
+        return array_at(s, w, at, left);
+    }
+    if code == 0x1d {
+        return annotation_at(s, w, at, left);
+    }
+    let Read { value, next } = value_heads::checked_number(s, w, at + 1, head)?;
+    Ok(Read {
+        value: plain_of(head, value),
+        next,
+    })
 }

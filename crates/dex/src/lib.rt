@@ -1,116 +1,40 @@
 // The public readers of a DEX file, its whole check, and the types of their answers: each takes a lent file of any bytes and checks for itself.
 #![tactic(auto)]
 
-pub use Result<usize, Refusal>;
-pub use Result<DirectoryEntry, Refusal>;
-pub use annotation_directories::DirectoryHead;
-pub use Result<Summary, Refusal>;
-pub use Result<u32, Refusal>;
+pub use annotation_directories::{DirectoryEntry, DirectoryHead};
+pub use annotation_items::Summary;
 pub use class_data::Counts;
 pub use class_ids::Class;
-pub use Result<Class, Refusal>;
-pub use Option<u32>;
 pub use class_members::Member;
-pub use Result<Option<usize>, Refusal>;
-pub use Result<Option<Counts>, Refusal>;
-pub use Result<Option<Member>, Refusal>;
-pub use class_readers::class_data;
-pub use class_readers::member;
-pub use class_readers::member_flags;
+pub use class_readers::{class_data, member, member_flags};
 pub use code_bodies::Try;
 pub use code_heads::CodeHead;
-pub use Option<u32>;
-pub use Option<u32>;
-pub use Result<Option<u32>, Refusal>;
 pub use code_item::Outline;
-pub use Result<Option<Outline>, Refusal>;
-pub use Result<Option<HandlerOutline>, Refusal>;
-pub use Result<Option<Pair>, Refusal>;
-pub use Result<Option<NumberedTry>, Refusal>;
-pub use code_readers::code;
-pub use code_readers::covering_try;
-pub use code_readers::handler;
-pub use code_readers::handler_count;
-pub use code_readers::handler_pair;
-pub use code_readers::try_item;
-pub use code_readers::units;
-pub use Option<u32>;
-pub use Result<Option<DebugOutline>, Refusal>;
-pub use Result<Option<Option<u32>>, Refusal>;
-pub use debug_readers::debug;
-pub use debug_readers::debug_parameter;
-pub use debug_readers::line_program;
+pub use code_readers::{code, covering_try, handler, handler_count, handler_pair, try_item, units};
+pub use debug_readers::{debug, debug_parameter, line_program};
 pub use decoded_value::Value;
-pub use Result<Option<DirectoryHead>, Refusal>;
-pub use directory_readers::directory;
-pub use directory_readers::field_entry;
-pub use directory_readers::method_entry;
-pub use directory_readers::parameter_entry;
+pub use directory_readers::{directory, field_entry, method_entry, parameter_entry};
 pub use handlers::Pair;
-pub use header::Header;
-pub use Result<Header, Refusal>;
-pub use header::Table;
-pub use ids::Handle;
-pub use Result<Handle, Refusal>;
-pub use Result<u32, Refusal>;
-pub use ids::MemberId;
-pub use Result<MemberId, Refusal>;
-pub use ids::Proto;
-pub use Result<Proto, Refusal>;
+pub use header::{Header, Table};
+pub use ids::{Handle, MemberId, Proto};
 pub use map_list::MapEntry;
-pub use Result<(), Refusal>;
 pub use refusal::Refusal;
-pub use set_readers::class_annotation_count;
-pub use set_readers::class_annotation_place;
-pub use set_readers::field_annotation_count;
-pub use set_readers::field_annotation_place;
-pub use set_readers::method_annotation_count;
-pub use set_readers::method_annotation_place;
-pub use set_readers::parameter_annotation_count;
-pub use set_readers::parameter_annotation_place;
-pub use set_readers::parameter_set_count;
-pub use Result<Option<StaticField>, Refusal>;
-pub use Result<Option<WrongKind>, Refusal>;
-pub use static_fields::static_field;
-pub use static_fields::wrong_kind;
-pub use Option<u32>;
-pub use Result<Option<u32>, Refusal>;
-pub use Result<u32, Refusal>;
-pub use Result<MapEntry, Refusal>;
-pub use table_readers::class;
-pub use table_readers::class_flags;
-pub use table_readers::field;
-pub use table_readers::find_string;
-pub use table_readers::handle;
-pub use table_readers::handle_count;
-pub use table_readers::header;
-pub use table_readers::interface;
-pub use table_readers::interface_count;
-pub use table_readers::map_count;
-pub use table_readers::map_entry;
-pub use table_readers::method;
-pub use table_readers::parameter;
-pub use table_readers::parameter_count;
-pub use table_readers::proto;
-pub use table_readers::signature;
-pub use table_readers::string;
-pub use table_readers::string_bytes;
-pub use table_readers::type_name;
-pub use Result<TextPlace, Refusal>;
-pub use Result<u32, Refusal>;
-pub use Result<u32, Refusal>;
-pub use Result<u32, Refusal>;
-pub use Result<Element, Refusal>;
-pub use Result<Value, Refusal>;
-pub use Result<ArrayOutline, Refusal>;
-pub use Result<BodyOutline, Refusal>;
-pub use value_readers::annotation;
-pub use value_readers::annotation_body;
-pub use value_readers::annotation_body_element;
-pub use value_readers::annotation_element;
-pub use value_readers::array;
-pub use value_readers::array_value;
-pub use value_readers::static_value;
-pub use value_readers::static_value_count;
+pub use set_readers::{
+    class_annotation_count, class_annotation_place, field_annotation_count, field_annotation_place,
+    method_annotation_count, method_annotation_place, parameter_annotation_count,
+    parameter_annotation_place, parameter_set_count,
+};
+pub use static_fields::{StaticField, WrongKind, static_field, wrong_kind};
+pub use table_readers::{
+    class, class_flags, field, find_string, handle, handle_count, header, interface,
+    interface_count, map_count, map_entry, method, parameter, parameter_count, proto, signature,
+    string, string_bytes, type_name,
+};
+pub use text::TextPlace;
+pub use value_bodies::Element;
+pub use value_readers::{
+    ArrayOutline, BodyOutline, annotation, annotation_body, annotation_body_element,
+    annotation_element, array, array_value, static_value, static_value_count,
+};
 pub use whole_check::check;
 pub use word::Endian;

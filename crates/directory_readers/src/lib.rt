@@ -22,10 +22,10 @@ fn directory_in(f: &[u8], header: Header, c: u32) -> Result<Reached, Refusal>
     ensures { reached_outcome result ≡ directory_in f.now c header }
 {
     let found = table_readers::class_in(f, header, c)?;
-Ok(Reached {
-            header: header,
-            place: found.directory,
-        })
+    Ok(Reached {
+        header: header,
+        place: found.directory,
+    })
 }
 
 // Where the directory of class c is, 0 where it has none.
@@ -33,7 +33,7 @@ pub fn directory_of(f: &[u8], c: u32) -> Result<Reached, Refusal>
     ensures { reached_outcome result ≡ directory_of f.now c }
 {
     let header = header::header_of(f)?;
-directory_in(f, header, c)
+    directory_in(f, header, c)
 }
 
 // The directory at a place, none at 0.
@@ -46,7 +46,7 @@ pub fn head_in(f: &[u8], header: Header, at: u32) -> Result<Option<DirectoryHead
             header::plain_frame(header),
             at as usize,
         )?;
-return Ok(Some(head));
+        return Ok(Some(head));
     }
     Ok(None)
 }
@@ -56,12 +56,18 @@ pub fn directory(f: &[u8], c: u32) -> Result<Option<DirectoryHead>, Refusal>
     ensures { directory_outcome result ≡ directory f.now c }
 {
     let d = directory_of(f, c)?;
-let header = d.header;
-            head_in(f, header, d.place)
+    let header = d.header;
+    head_in(f, header, d.place)
 }
 
 // Entry k of a list of the directory at a place: at 0 there are none.
-pub fn entry_in(f: &[u8], header: Header, at: u32, list: u32, k: u32) -> Result<DirectoryEntry, Refusal>
+pub fn entry_in(
+    f: &[u8],
+    header: Header,
+    at: u32,
+    list: u32,
+    k: u32,
+) -> Result<DirectoryEntry, Refusal>
     ensures { directory_entry_outcome result ≡ entry_in f.now header at list k }
 {
     if 0 < at {
@@ -80,8 +86,8 @@ fn entry_of(f: &[u8], c: u32, list: u32, k: u32) -> Result<DirectoryEntry, Refus
     ensures { directory_entry_outcome result ≡ entry_number f.now c list k }
 {
     let d = directory_of(f, c)?;
-let header = d.header;
-            entry_in(f, header, d.place, list, k)
+    let header = d.header;
+    entry_in(f, header, d.place, list, k)
 }
 
 // Field entry k of class c: the field, and where its set is.

@@ -7,7 +7,6 @@ ghost use Rattle.file_report.specs.Input.{input_at};
 
 use refusal::Refusal;
 
-
 // What a program's input comes to, which has at most 65,536 bytes.
 pub fn input_verdict(f: &[u8]) -> Result<Header, Refusal>
     ensures { verdict_outcome result ≡ input_at f.now }

@@ -188,17 +188,24 @@ fn table_at(f: &[u8], order: Endian, shape: Shape, at: u32) -> Result<Table, Ref
 }
 
 // Three tables whose counts and offsets stand in a row.
-fn three_at(f: &[u8], order: Endian, a: Shape, b: Shape, c: Shape, at: u16) -> Result<Three, Refusal>
+fn three_at(
+    f: &[u8],
+    order: Endian,
+    a: Shape,
+    b: Shape,
+    c: Shape,
+    at: u16,
+) -> Result<Three, Refusal>
     ensures { three_outcome result ≡ three_at f.now order a b c at }
 {
     let first = table_at(f, order, a, at as u32)?;
-let second = table_at(f, order, b, at as u32 + 8)?;
-let third = table_at(f, order, c, at as u32 + 16)?;
-Ok(Three {
-                    first,
-                    second,
-                    third,
-                })
+    let second = table_at(f, order, b, at as u32 + 8)?;
+    let third = table_at(f, order, c, at as u32 + 16)?;
+    Ok(Three {
+        first,
+        second,
+        third,
+    })
 }
 
 // The data section.
@@ -265,7 +272,7 @@ fn sectioned(f: &[u8], version: u32, order: Endian, t: Three, u: Three) -> Resul
     ensures { header_outcome result ≡ sectioned_at f.now version order t u }
 {
     let d = section_at(f, order)?;
-Ok(join(f, version, order, t, u, d))
+    Ok(join(f, version, order, t, u, d))
 }
 
 // Rule 6: the six tables and the data section.
@@ -273,8 +280,8 @@ fn tables_at(f: &[u8], version: u32, order: Endian) -> Result<Header, Refusal>
     ensures { header_outcome result ≡ tables_at f.now version order }
 {
     let t = three_at(f, order, STRINGS, TYPES, PROTOS, 56)?;
-let u = three_at(f, order, FIELDS, METHODS, CLASSES, 80)?;
-sectioned(f, version, order, t, u)
+    let u = three_at(f, order, FIELDS, METHODS, CLASSES, 80)?;
+    sectioned(f, version, order, t, u)
 }
 
 // The header, or the first of rules 1 to 6 that is broken.
@@ -300,7 +307,7 @@ fn versioned(f: &[u8]) -> Result<Header, Refusal>
     let version = version_at(f);
     if 0 < version {
         let order = order_at(f)?;
-return body_at(f, version, order);
+        return body_at(f, version, order);
     }
     Err(refusal::wrong_magic())
 }

@@ -70,7 +70,13 @@ pub fn proto_at(f: &[u8], frame: Frame, end: usize, offset: u32, n: u32) -> Resu
 }
 
 // A field's or a method's own rules: `kinds` is how many types or protos there are.
-pub fn member_at(f: &[u8], frame: Frame, kinds: u32, offset: u32, n: u32) -> Result<MemberId, Refusal>
+pub fn member_at(
+    f: &[u8],
+    frame: Frame,
+    kinds: u32,
+    offset: u32,
+    n: u32,
+) -> Result<MemberId, Refusal>
     ensures { member_id_outcome result ≡ member_id_at f.now frame kinds offset n }
 {
     let order = frame.order;

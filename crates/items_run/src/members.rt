@@ -1,29 +1,44 @@
 // Kinds 16 to 24: debug information, class data and code items. Their answers have the words of the readers' answers.
+use code_item::{HandlerOutline, NumberedTry};
+use debug_info::DebugOutline;
 use frame::Frame;
 use refusal::{Read, Refusal};
-use debug_info::DebugOutline;
-use code_item::{HandlerOutline, NumberedTry};
 
 fn debug(a: Result<DebugOutline, Refusal>) -> Result<Option<DebugOutline>, Refusal> {
-    let DebugOutline { line, names, start, length } = a?;
-Ok(Some(DebugOutline { line, names, start, length }))
+    let DebugOutline {
+        line,
+        names,
+        start,
+        length,
+    } = a?;
+    Ok(Some(DebugOutline {
+        line,
+        names,
+        start,
+        length,
+    }))
 }
 
 fn name(a: Result<Option<u32>, Refusal>) -> Result<Option<Option<u32>>, Refusal> {
     let n = a?;
-Ok(Some(n))
+    Ok(Some(n))
 }
 
 fn member(a: Result<Member, Refusal>) -> Result<Option<Member>, Refusal> {
     let m = a?;
-Ok(Some(m))
+    Ok(Some(m))
 }
 
 // The counts, and where the class data ends.
 fn data_row(a: Result<Read<Counts>, Refusal>) -> [u64; 20] {
     match a {
         Err(r) => answer_rows::data_row(Err(r)),
-        Ok(Read { value: counts, next: end }) => {
+        Ok(
+            Read {
+                value: counts,
+                next: end,
+            },
+        ) => {
             let mut row = answer_rows::data_row(Ok(Some(counts)));
             row[5] = end as u64;
             row
@@ -33,22 +48,22 @@ fn data_row(a: Result<Read<Counts>, Refusal>) -> [u64; 20] {
 
 fn code(a: Result<Outline, Refusal>) -> Result<Option<Outline>, Refusal> {
     let o = a?;
-Ok(Some(o))
+    Ok(Some(o))
 }
 
 fn attempt(a: Result<NumberedTry, Refusal>) -> Result<Option<NumberedTry>, Refusal> {
     let NumberedTry { attempt, number } = a?;
-Ok(Some(NumberedTry { attempt, number }))
+    Ok(Some(NumberedTry { attempt, number }))
 }
 
 fn handler(a: Result<HandlerOutline, Refusal>) -> Result<Option<HandlerOutline>, Refusal> {
     let HandlerOutline { offset, pairs, all } = a?;
-Ok(Some(HandlerOutline { offset, pairs, all }))
+    Ok(Some(HandlerOutline { offset, pairs, all }))
 }
 
 fn pair(a: Result<Pair, Refusal>) -> Result<Option<Pair>, Refusal> {
     let p = a?;
-Ok(Some(p))
+    Ok(Some(p))
 }
 
 pub(crate) fn row(s: &[u8], kind: u8, frame: Frame, item: usize, b: u32, c: u32) -> [u64; 20] {

@@ -4,12 +4,12 @@ use refusal::Refusal;
 
 fn visibility(v: Result<u8, Refusal>) -> Result<u32, Refusal> {
     let n = v?;
-Ok(n as u32)
+    Ok(n as u32)
 }
 
 fn directory(h: Result<DirectoryHead, Refusal>) -> Result<Option<DirectoryHead>, Refusal> {
     let d = h?;
-Ok(Some(d))
+    Ok(Some(d))
 }
 
 pub(crate) fn row(s: &[u8], kind: u8, frame: Frame, item: usize, k: u32) -> [u64; 20] {

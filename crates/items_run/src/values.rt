@@ -1,9 +1,9 @@
 // Kinds 8 to 13: a value inside a body, and bodies by number.
 use super::numbers;
 use decoded_value::Value;
-use value_heads::Walk;
 use refusal::Read;
 use value_bodies::AnnotationHead;
+use value_heads::Walk;
 
 fn single(value: f32) -> u64 {
     if value != value {

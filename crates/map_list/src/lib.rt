@@ -194,7 +194,7 @@ fn list_at(s: &[u8], j: MapJudge) -> Result<MapList, Refusal>
         return Err(refusal::runs_past(at));
     }
     let handles = scan(s, j, at + 4, count)?;
-Ok(MapList { count, handles })
+    Ok(MapList { count, handles })
 }
 
 // The map of a file with this header: 8 for its own offset, 9, and then 16.

@@ -9,7 +9,6 @@ ghost use Rattle.named_report.specs.Output.{one_line, heading, output_of, status
 
 use refusal::Refusal;
 
-
 // Is a name one line? One with a line feed would be two, and the second could say what a report says.
 pub fn is_one_line(name: &[u8]) -> bool
     ensures { result ≡ one_line name.now }
@@ -57,7 +56,11 @@ fn put_heading(name: &[u8], out: &mut [u8]) -> usize
 }
 
 // All that goes out for an input: how many bytes, or 19, writing nothing, where the output is shorter.
-pub fn output_into(name: &[u8], verdict: Result<Header, Refusal>, out: &mut [u8]) -> Result<usize, Refusal>
+pub fn output_into(
+    name: &[u8],
+    verdict: Result<Header, Refusal>,
+    out: &mut [u8],
+) -> Result<usize, Refusal>
     ensures answer { report_outcome result ≡ written (output_of name.now (verdict_outcome verdict)) (length out.old) }
     ensures wrote { out.new ≡ content (output_of name.now (verdict_outcome verdict)) out.old }
 {

@@ -11,7 +11,6 @@ ghost use Rattle.register_text.specs.Answers.{half_worth, whole_worth};
 
 use refusal::Refusal;
 
-
 // How far a text has been written: the place of its next byte, and how many bytes of the output are used.
 #[derive(Clone, Copy)]
 pub struct Piece {
@@ -140,9 +139,9 @@ fn minus_into(n: u64, out: &mut [u8]) -> Result<usize, Refusal>
         return Err(refusal::no_room());
     }
     let k = report::number_into(n, &mut out[1..])?;
-let end = k + 1;
-            out[0] = b'-';
-            Ok(end)
+    let end = k + 1;
+    out[0] = b'-';
+    Ok(end)
 }
 
 // A number with its sign, in decimal.
@@ -206,7 +205,10 @@ fn scaled(negative: bool, significand: u64, times: u32) -> Option<WholeNumber>
 {
     match halved(significand, times) {
         None => None,
-        Some(magnitude) => Some(WholeNumber { negative, magnitude }),
+        Some(magnitude) => Some(WholeNumber {
+            negative,
+            magnitude,
+        }),
     }
 }
 
@@ -219,7 +221,10 @@ pub fn whole_of_float(bits: u32) -> Option<WholeNumber>
     let exponent = bits / 8388608 % 256;
     let fraction = (bits % 8388608) as u64;
     if bits % 2147483648 == 0 {
-        return Some(WholeNumber { negative: false, magnitude: 0 });
+        return Some(WholeNumber {
+            negative: false,
+            magnitude: 0,
+        });
     }
     if exponent < 127 {
         return None;
@@ -228,7 +233,10 @@ pub fn whole_of_float(bits: u32) -> Option<WholeNumber>
         return scaled(negative, 8388608 + fraction, 150 - exponent);
     }
     if bits % 2147483648 == 1266679808 {
-        return Some(WholeNumber { negative, magnitude: 16777216 });
+        return Some(WholeNumber {
+            negative,
+            magnitude: 16777216,
+        });
     }
     None
 }
@@ -241,7 +249,10 @@ pub fn whole_of_double(bits: u64) -> Option<WholeNumber>
     let exponent = (bits / 4503599627370496 % 2048) as u32;
     let fraction = bits % 4503599627370496;
     if bits % 9223372036854775808 == 0 {
-        return Some(WholeNumber { negative: false, magnitude: 0 });
+        return Some(WholeNumber {
+            negative: false,
+            magnitude: 0,
+        });
     }
     if exponent < 1023 {
         return None;
@@ -250,7 +261,10 @@ pub fn whole_of_double(bits: u64) -> Option<WholeNumber>
         return scaled(negative, 4503599627370496 + fraction, 1075 - exponent);
     }
     if bits % 9223372036854775808 == 4845873199050653696 {
-        return Some(WholeNumber { negative, magnitude: 9007199254740992 });
+        return Some(WholeNumber {
+            negative,
+            magnitude: 9007199254740992,
+        });
     }
     None
 }

@@ -3,9 +3,9 @@ use super::lines::UNREAD;
 use super::values::Fact;
 use super::{lines, names, values};
 use header::Header;
+use refusal::Read;
 use std::env::Env;
 use value_heads::Walk;
-use refusal::Read;
 
 // The field entries of a directory: where it is, how many there are, and whether their fields are in rising order.
 #[derive(Clone, Copy)]
@@ -96,7 +96,12 @@ fn write_body(
     let s = header::up_to_end(f, header);
     match value_heads::index_at(s, w.item, w.types, at) {
         Err(_) => UNREAD,
-        Ok(Read { value: type_index, next: middle }) => match leb128::uleb(s, middle, w.item) {
+        Ok(
+            Read {
+                value: type_index,
+                next: middle,
+            },
+        ) => match leb128::uleb(s, middle, w.item) {
             Err(_) => UNREAD,
             Ok(Read { value: count, next }) => {
                 let p = names::put_type_column(rt, f, header, type_index, out, used);

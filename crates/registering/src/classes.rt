@@ -6,8 +6,8 @@ use super::{annotations, lines, names, values};
 use class_ids::Class;
 use class_members::MemberJudge;
 use header::Header;
-use std::env::Env;
 use refusal::Read;
+use std::env::Env;
 use text::TextPlace;
 
 // How many things there are, and where they begin.
@@ -104,7 +104,13 @@ fn put_default(
         Err(_) => UNREAD,
         Ok(string) => match string_ids::string_at(f, header, string) {
             Err(_) => UNREAD,
-            Ok(TextPlace { start, length, units: _ }) => {
+            Ok(
+                TextPlace {
+                    start,
+                    length,
+                    units: _,
+                },
+            ) => {
                 let value = static_kinds::default_of(word::bytes_at(f, start, length));
                 let p = values::put_fact(rt, f, header, fact, out, used);
                 values::put_value(rt, f, header, value, out, p)
@@ -236,7 +242,12 @@ fn write_fields(
             Err(_) => {
                 return UNREAD;
             }
-            Ok(Read { value: member, next }) => {
+            Ok(
+                Read {
+                    value: member,
+                    next,
+                },
+            ) => {
                 rest = write_field(
                     rt,
                     f,

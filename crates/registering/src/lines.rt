@@ -2,8 +2,8 @@
 // failed, and UNREAD that the file could not be read on: then nothing more is put or written.
 ghost use Rattle.registering.specs.Ends.{Ended};
 
-use std::env::Env;
 use refusal::Refusal;
+use std::env::Env;
 
 // How large the room is.
 pub const SPACE: usize = 16384;

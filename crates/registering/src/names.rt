@@ -3,8 +3,8 @@ use super::lines;
 use super::lines::UNREAD;
 use header::Header;
 use ids::MemberId;
-use std::env::Env;
 use refusal::Refusal;
+use std::env::Env;
 use text::TextPlace;
 
 // String n.
@@ -19,7 +19,13 @@ pub fn put_string(
 ) -> usize {
     match string_ids::string_at(f, header, n) {
         Err(_) => UNREAD,
-        Ok(TextPlace { start, length, units: _ }) => lines::put_text(rt, word::bytes_at(f, start, length), key, out, used),
+        Ok(
+            TextPlace {
+                start,
+                length,
+                units: _,
+            },
+        ) => lines::put_text(rt, word::bytes_at(f, start, length), key, out, used),
     }
 }
 

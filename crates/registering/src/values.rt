@@ -4,10 +4,10 @@ use super::{lines, names};
 use decoded_value::Value;
 use encoded_value::DEEPEST_VALUE;
 use header::Header;
-use std::env::Env;
-use value_heads::Walk;
 use refusal::Read;
 use register_text::WholeNumber;
+use std::env::Env;
+use value_heads::Walk;
 
 // How many bodies may be open in a value.
 const STEPS: usize = 64;
@@ -159,10 +159,20 @@ fn put_char(rt: &(impl Env + Print), n: u16, out: &mut [u8], used: usize) -> usi
 }
 
 // The whole number of a float, where it is one, in a column more.
-fn put_whole(rt: &(impl Env + Print), whole: Option<WholeNumber>, out: &mut [u8], used: usize) -> usize {
+fn put_whole(
+    rt: &(impl Env + Print),
+    whole: Option<WholeNumber>,
+    out: &mut [u8],
+    used: usize,
+) -> usize {
     match whole {
         None => used,
-        Some(WholeNumber { negative, magnitude }) => {
+        Some(
+            WholeNumber {
+                negative,
+                magnitude,
+            },
+        ) => {
             let p = lines::put(rt, b"\t", out, used);
             lines::put_signed(rt, negative, magnitude, out, p)
         }
@@ -331,7 +341,12 @@ fn show_annotation(
     let s = header::up_to_end(f, header);
     match value_heads::index_at(s, w.item, w.types, at) {
         Err(_) => stopped(at),
-        Ok(Read { value: type_index, next: middle }) => match leb128::uleb(s, middle, w.item) {
+        Ok(
+            Read {
+                value: type_index,
+                next: middle,
+            },
+        ) => match leb128::uleb(s, middle, w.item) {
             Err(_) => stopped(at),
             Ok(Read { value: count, next }) => {
                 let p = lines::put(rt, b"\tannotation", out, used);

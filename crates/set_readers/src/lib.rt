@@ -8,10 +8,10 @@ ghost use Rattle.set_readers.specs.Sets.{class_set_in, class_set, entry_set_in, 
 ghost use Rattle.set_readers.specs.Sets.{references_in, parameter_set_count, set_count, set_number, annotation_count, annotation_place};
 ghost use Rattle.directory_readers.specs.Answers.{reached_outcome};
 
+use annotation_directories::DirectoryEntry;
 use directory_readers::Reached;
 use header::Header;
 use refusal::Refusal;
-use annotation_directories::DirectoryEntry;
 
 // Where the class's set is, by the directory at a place.
 fn class_set_in(f: &[u8], header: Header, at: u32) -> Result<Reached, Refusal>
@@ -34,8 +34,8 @@ fn class_set(f: &[u8], c: u32) -> Result<Reached, Refusal>
     ensures { reached_outcome result ≡ class_set f.now c }
 {
     let d = directory_readers::directory_of(f, c)?;
-let header = d.header;
-            class_set_in(f, header, d.place)
+    let header = d.header;
+    class_set_in(f, header, d.place)
 }
 
 // Where entry e of a list leads to, by the directory at a place.
@@ -43,18 +43,18 @@ fn entry_set_in(f: &[u8], header: Header, at: u32, list: u32, e: u32) -> Result<
     ensures { reached_outcome result ≡ entry_set_in f.now header at list e }
 {
     let DirectoryEntry { offset, .. } = directory_readers::entry_in(f, header, at, list, e)?;
-Ok(Reached {
-            header: header,
-            place: offset,
-        })
+    Ok(Reached {
+        header: header,
+        place: offset,
+    })
 }
 
 fn entry_set(f: &[u8], c: u32, list: u32, e: u32) -> Result<Reached, Refusal>
     ensures { reached_outcome result ≡ entry_set f.now c list e }
 {
     let d = directory_readers::directory_of(f, c)?;
-let header = d.header;
-            entry_set_in(f, header, d.place, list, e)
+    let header = d.header;
+    entry_set_in(f, header, d.place, list, e)
 }
 
 // Where set p of the reference list at a place is, 0 where it is absent.
@@ -67,18 +67,18 @@ fn parameter_set_in(f: &[u8], header: Header, at: u32, p: u32) -> Result<Reached
         at as usize,
         p,
     )?;
-Ok(Reached {
-            header: header,
-            place,
-        })
+    Ok(Reached {
+        header: header,
+        place,
+    })
 }
 
 fn parameter_set(f: &[u8], c: u32, e: u32, p: u32) -> Result<Reached, Refusal>
     ensures { reached_outcome result ≡ parameter_set f.now c e p }
 {
     let l = entry_set(f, c, 2, e)?;
-let header = l.header;
-            parameter_set_in(f, header, l.place, p)
+    let header = l.header;
+    parameter_set_in(f, header, l.place, p)
 }
 
 fn references_in(f: &[u8], header: Header, at: u32) -> Result<u32, Refusal>
@@ -96,8 +96,8 @@ pub fn parameter_set_count(f: &[u8], c: u32, e: u32) -> Result<u32, Refusal>
     ensures { word_outcome result ≡ parameter_set_count f.now c e }
 {
     let l = entry_set(f, c, 2, e)?;
-let header = l.header;
-            references_in(f, header, l.place)
+    let header = l.header;
+    references_in(f, header, l.place)
 }
 
 // How many annotations the set at a place has, 0 where it is absent.
@@ -133,8 +133,8 @@ fn count_of(f: &[u8], set: Result<Reached, Refusal>) -> Result<u32, Refusal>
     ensures { word_outcome result ≡ annotation_count f.now (reached_outcome set) }
 {
     let reached = set?;
-let header = reached.header;
-            set_count(f, header, reached.place)
+    let header = reached.header;
+    set_count(f, header, reached.place)
 }
 
 // Where annotation k of the set is that was reached.
@@ -142,8 +142,8 @@ fn place_of(f: &[u8], set: Result<Reached, Refusal>, k: u32) -> Result<u32, Refu
     ensures { word_outcome result ≡ annotation_place f.now (reached_outcome set) k }
 {
     let reached = set?;
-let header = reached.header;
-            set_number(f, header, reached.place, k)
+    let header = reached.header;
+    set_number(f, header, reached.place, k)
 }
 
 // How many annotations class c has.

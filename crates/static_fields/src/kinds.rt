@@ -8,21 +8,27 @@ ghost use Rattle.static_fields.specs.Pairing.{wrong_under, wrong_in, wrong_kind}
 ghost use Rattle.static_fields.specs.Stages.{fields_begin, values_begin, fields_from, values_from, kind_at, fits_at, wrong_from};
 ghost use Rattle.static_fields.specs.Answers.{maybe_wrong, begin_outcome, kind_outcome, fits_next_outcome};
 
-use super::{Result<Read<u32>, Refusal>, Result<bool, Refusal>, Result<Read<bool>, Refusal>, Result<Read<u8>, Refusal>, Result<Option<WrongKind>, Refusal>};
+use super::WrongKind;
 use class_members::MemberJudge;
 use encoded_value::DEEPEST_VALUE;
 use frame::Frame;
 use header::Header;
-use value_heads::Walk;
 use refusal::{Read, Refusal};
+use value_heads::Walk;
 
 // How many static fields class data has, and where they begin: the whole first.
 fn fields_begin(s: &[u8], frame: Frame, item: usize) -> Result<Read<u32>, Refusal>
     ensures { begin_outcome result ≡ fields_begin s.now frame item }
 {
     class_data::class_data_at(s, frame, item)?;
-let Read { value: counts, next } = class_data::counts_at(s, item)?;
-Ok(Read { value: counts.statics, next })
+    let Read {
+        value: counts,
+        next,
+    } = class_data::counts_at(s, item)?;
+    Ok(Read {
+        value: counts.statics,
+        next,
+    })
 }
 
 // The same of an array and its values.
@@ -30,8 +36,8 @@ fn values_begin(s: &[u8], w: Walk, item: usize) -> Result<Read<u32>, Refusal>
     ensures { begin_outcome result ≡ values_begin s.now w item }
 {
     let count = value_bodies::array_count(s, w, item)?;
-let Read { next, .. } = leb128::uleb(s, item, item)?;
-Ok(Read { value: count, next })
+    let Read { next, .. } = leb128::uleb(s, item, item)?;
+    Ok(Read { value: count, next })
 }
 
 // What the values of an item are gone over with.
@@ -81,19 +87,29 @@ fn kind_at(s: &[u8], w: Walk, at: usize) -> Result<Read<u8>, Refusal>
     ensures { kind_outcome result ≡ kind_at s.now w at }
 {
     let head = value_heads::head_at(s, w.item, at)?;
-let next = encoded_value::value(s, w, at, DEEPEST_VALUE)?;
-Ok(Read { value: head % 32, next })
+    let next = encoded_value::value(s, w, at, DEEPEST_VALUE)?;
+    Ok(Read {
+        value: head % 32,
+        next,
+    })
 }
 
 // Does the value at a place fit field n.
-fn fits_at(f: &[u8], header: Header, handles: u32, values: u32, at: usize, n: u32) -> Result<Read<bool>, Refusal>
+fn fits_at(
+    f: &[u8],
+    header: Header,
+    handles: u32,
+    values: u32,
+    at: usize,
+    n: u32,
+) -> Result<Read<bool>, Refusal>
     ensures { fits_next_outcome result ≡ fits_at f.now header handles values at n }
 {
     let s = header::up_to_end(f, header);
     let w = walk_in(header, handles, values as usize);
     let Read { value: kind, next } = kind_at(s, w, at)?;
-let fits = super::texts::fits_in(f, header, n, kind)?;
-Ok(Read { value: fits, next })
+    let fits = super::texts::fits_in(f, header, n, kind)?;
+    Ok(Read { value: fits, next })
 }
 
 // Fields and values once more, side by side: the first value that does not fit its field.
@@ -116,15 +132,24 @@ fn wrong_from(
     let mut later = false;
     let mut q = first;
     for k in 0..count {
-        let Read { value: member, next } = class_members::member_found(s, judge, data as usize, base, later, p)?;
-let Read { value: fits, next: after } = fits_at(f, header, handles, values, q, member.index)?;
-if fits {
-                            base = member.index;
-                            p = next;
-                            q = after;
-                        } else {
-                            return Ok(Some(WrongKind { k, field: member.index }));
-                        }
+        let Read {
+            value: member,
+            next,
+        } = class_members::member_found(s, judge, data as usize, base, later, p)?;
+        let Read {
+            value: fits,
+            next: after,
+        } = fits_at(f, header, handles, values, q, member.index)?;
+        if fits {
+            base = member.index;
+            p = next;
+            q = after;
+        } else {
+            return Ok(Some(WrongKind {
+                k,
+                field: member.index,
+            }));
+        }
         later = true;
     }
     Ok(None)
@@ -141,21 +166,25 @@ fn wrong_under(
 ) -> Result<Option<WrongKind>, Refusal>
     ensures { maybe_wrong result ≡ wrong_under f.now header handles c «data» values }
 {
-    let Read { value: fields, next: from } = fields_from(f, header, data)?;
-let Read { value: count, next: first } = values_from(f, header, handles, values)?;
-if count <= fields {
-                    return wrong_from(f, header, handles, data, values, from, first, count);
-                }
-                Err(refusal::too_many_values(super::pairs::class_place(
-                    header, c,
-                )))
+    let Read {
+        value: fields,
+        next: from,
+    } = fields_from(f, header, data)?;
+    let Read {
+        value: count,
+        next: first,
+    } = values_from(f, header, handles, values)?;
+    if count <= fields {
+        return wrong_from(f, header, handles, data, values, from, first, count);
+    }
+    Err(refusal::too_many_values(super::pairs::class_place(header, c)))
 }
 
 fn wrong_in(f: &[u8], header: Header, handles: u32, c: u32) -> Result<Option<WrongKind>, Refusal>
     ensures { maybe_wrong result ≡ wrong_in f.now c header handles }
 {
     let found = table_readers::class_in(f, header, c)?;
-wrong_under(f, header, handles, c, found.data, found.values)
+    wrong_under(f, header, handles, c, found.data, found.values)
 }
 
 // The first static field of class c whose value has the wrong kind.
@@ -163,6 +192,6 @@ pub fn wrong_kind(f: &[u8], c: u32) -> Result<Option<WrongKind>, Refusal>
     ensures { maybe_wrong result ≡ wrong_kind f.now c }
 {
     let o = table_readers::open(f)?;
-let header = o.header;
-            wrong_in(f, header, o.handles, c)
+    let header = o.header;
+    wrong_in(f, header, o.handles, c)
 }

@@ -28,4 +28,3 @@ pub struct WrongKind {
     pub k: u32,
     pub field: u32,
 }
-

@@ -6,7 +6,7 @@ ghost use Rattle.static_fields.specs.Pairing.{class_place, field_under, field_in
 ghost use Rattle.static_fields.specs.Stages.{valued, pair_of, field_some};
 ghost use Rattle.static_fields.specs.Answers.{maybe_field};
 
-use super::StaticFieldAnswer;
+use super::StaticField;
 use class_members::Member;
 use header::Header;
 use refusal::{Read, Refusal};
@@ -20,11 +20,20 @@ pub fn class_place(header: Header, c: u32) -> usize
 }
 
 // A value that was found, as field m's.
-fn valued_as(m: Member, stored: bool, found: Result<Value, Refusal>) -> Result<Option<StaticField>, Refusal>
+fn valued_as(
+    m: Member,
+    stored: bool,
+    found: Result<Value, Refusal>,
+) -> Result<Option<StaticField>, Refusal>
     ensures { maybe_field result ≡ valued m stored (picked_outcome found) }
 {
     let value = found?;
-Ok(Some(StaticField { field: m.index, flags: m.flags, stored, value }))
+    Ok(Some(StaticField {
+        field: m.index,
+        flags: m.flags,
+        stored,
+        value,
+    }))
 }
 
 // Static field k where so many values are stored: value k, or past the list what the text of the field's type calls for.
@@ -42,12 +51,12 @@ fn pair_of(
     let s = header::up_to_end(f, header);
     let frame = header::plain_frame(header);
     let m = class_data::member_at(s, frame, data as usize, 0, k)?;
-if k < count {
-                let found = value_readers::value_in(f, header, handles, values, k);
-                return valued_as(m, true, found);
-            }
-            let unset = super::texts::default_in(f, header, m.index);
-            valued_as(m, false, unset)
+    if k < count {
+        let found = value_readers::value_in(f, header, handles, values, k);
+        return valued_as(m, true, found);
+    }
+    let unset = super::texts::default_in(f, header, m.index);
+    valued_as(m, false, unset)
 }
 
 // Class data whole, 7 for the field, static values whole, 21, and then the pair.
@@ -66,15 +75,15 @@ fn field_some(
     let s = header::up_to_end(f, header);
     let frame = header::plain_frame(header);
     let Read { value: counts, .. } = class_data::class_data_at(s, frame, data as usize)?;
-let fields = counts.statics;
-            if fields <= k {
-                return Err(refusal::not_there());
-            }
-            let count = value_readers::values_in(f, header, handles, values)?;
-if count <= fields {
-                        return pair_of(f, header, handles, data, values, k, count);
-                    }
-                    Err(refusal::too_many_values(class_place(header, c)))
+    let fields = counts.statics;
+    if fields <= k {
+        return Err(refusal::not_there());
+    }
+    let count = value_readers::values_in(f, header, handles, values)?;
+    if count <= fields {
+        return pair_of(f, header, handles, data, values, k, count);
+    }
+    Err(refusal::too_many_values(class_place(header, c)))
 }
 
 // A class without class data has none.
@@ -95,11 +104,17 @@ fn field_below(
     field_some(f, header, handles, c, k, data, values)
 }
 
-fn field_in(f: &[u8], header: Header, handles: u32, c: u32, k: u32) -> Result<Option<StaticField>, Refusal>
+fn field_in(
+    f: &[u8],
+    header: Header,
+    handles: u32,
+    c: u32,
+    k: u32,
+) -> Result<Option<StaticField>, Refusal>
     ensures { maybe_field result ≡ field_in f.now c k header handles }
 {
     let found = table_readers::class_in(f, header, c)?;
-field_below(f, header, handles, c, k, found.data, found.values)
+    field_below(f, header, handles, c, k, found.data, found.values)
 }
 
 // Static field k of class c, with its value.
@@ -107,6 +122,6 @@ pub fn static_field(f: &[u8], c: u32, k: u32) -> Result<Option<StaticField>, Ref
     ensures { maybe_field result ≡ static_field f.now c k }
 {
     let o = table_readers::open(f)?;
-let header = o.header;
-            field_in(f, header, o.handles, c, k)
+    let header = o.header;
+    field_in(f, header, o.handles, c, k)
 }

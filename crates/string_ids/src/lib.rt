@@ -13,8 +13,8 @@ ghost use Rattle.string_ids.specs.Answers.{item_outcome, last_bytes, lookup_outc
 
 use header::Header;
 use refusal::Refusal;
-use text_order::Order;
 use text::TextPlace;
+use text_order::Order;
 
 // Where the last text's bytes lie, if there is one.
 #[derive(Clone, Copy)]
@@ -49,7 +49,7 @@ pub fn string_at(f: &[u8], header: Header, n: u32) -> Result<TextPlace, Refusal>
     ensures { text_outcome result ≡ string_extent f.now header n }
 {
     let item = record_at(f, header, n)?;
-text::string_at(header::up_to_end(f, header), item)
+    text::string_at(header::up_to_end(f, header), item)
 }
 
 // Does the text that lies there come after the last one.
@@ -58,7 +58,12 @@ fn rises(s: &[u8], last: Option<Last>, start: usize, length: usize) -> bool
 {
     match last {
         None => true,
-        Some(Last { start: p, length: n }) => match text_order::compare(word::bytes_at(s, p, n), word::bytes_at(s, start, length)) {
+        Some(
+            Last {
+                start: p,
+                length: n,
+            },
+        ) => match text_order::compare(word::bytes_at(s, p, n), word::bytes_at(s, start, length)) {
             Order::Less => true,
             Order::Equal => false,
             Order::Greater => false,
@@ -89,11 +94,11 @@ pub fn check_strings(f: &[u8], header: Header) -> Result<(), Refusal>
     let mut last = None;
     for n in 0..strings.count {
         let TextPlace { start, length, .. } = string_at(f, header, n)?;
-if rises(s, last, start, length) {
-                    last = Some(Last { start, length });
-                } else {
-                    return Err(refusal::out_of_order(place_of(header, n)));
-                }
+        if rises(s, last, start, length) {
+            last = Some(Last { start, length });
+        } else {
+            return Err(refusal::out_of_order(place_of(header, n)));
+        }
     }
     Ok(())
 }
@@ -108,12 +113,12 @@ pub fn look_up(f: &[u8], header: Header, text: &[u8]) -> Result<Option<u32>, Ref
     let mut found = None;
     for k in 0..strings.count {
         let TextPlace { start, length, .. } = string_at(f, header, k)?;
-if rises(s, last, start, length) {
-                    found = found_with(found, word::bytes_at(s, start, length), text, k);
-                    last = Some(Last { start, length });
-                } else {
-                    return Err(refusal::out_of_order(place_of(header, k)));
-                }
+        if rises(s, last, start, length) {
+            found = found_with(found, word::bytes_at(s, start, length), text, k);
+            last = Some(Last { start, length });
+        } else {
+            return Err(refusal::out_of_order(place_of(header, k)));
+        }
     }
     Ok(found)
 }

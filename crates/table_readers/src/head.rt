@@ -5,7 +5,7 @@ ghost use Rattle.header.specs.Answers.{header_outcome};
 ghost use Rattle.table_readers.specs.Head.{signature_of, map_count, map_entry_in, map_entry, handle_count, mapped_at, opened_at};
 ghost use Rattle.table_readers.specs.Answers.{count_outcome, entry_outcome, opened_outcome};
 
-use super::{Result<u32, Refusal>, Result<MapEntry, Refusal>, Opened, Result<Opened, Refusal>};
+use super::Opened;
 use header::Header;
 use refusal::Refusal;
 
@@ -29,8 +29,8 @@ pub fn map_count(f: &[u8]) -> Result<u32, Refusal>
     ensures { count_outcome result ≡ map_count f.now }
 {
     let header = header::header_of(f)?;
-let m = map_list::map_of(f, header)?;
-Ok(m.count)
+    let m = map_list::map_of(f, header)?;
+    Ok(m.count)
 }
 
 // Entry k of the map.
@@ -38,38 +38,38 @@ pub fn map_entry(f: &[u8], k: u32) -> Result<MapEntry, Refusal>
     ensures { entry_outcome result ≡ map_entry f.now k }
 {
     let header = header::header_of(f)?;
-map_entry_in(f, header, k)
+    map_entry_in(f, header, k)
 }
 
 fn map_entry_in(f: &[u8], header: Header, k: u32) -> Result<MapEntry, Refusal>
     ensures { entry_outcome result ≡ map_entry_in f.now k header }
 {
     let m = map_list::map_of(f, header)?;
-let count = m.count;
-            if k < count {
-                return Ok(map_list::entry_number(f, header, k));
-            }
-            Err(refusal::not_there())
+    let count = m.count;
+    if k < count {
+        return Ok(map_list::entry_number(f, header, k));
+    }
+    Err(refusal::not_there())
 }
 
 pub fn handle_count(f: &[u8]) -> Result<u32, Refusal>
     ensures { count_outcome result ≡ handle_count f.now }
 {
     let header = header::header_of(f)?;
-let m = map_list::map_of(f, header)?;
-let handles = m.handles;
-                Ok(handles.count)
+    let m = map_list::map_of(f, header)?;
+    let handles = m.handles;
+    Ok(handles.count)
 }
 
 fn mapped(f: &[u8], header: Header) -> Result<Opened, Refusal>
     ensures { opened_outcome result ≡ mapped_at f.now header }
 {
     let m = map_list::map_of(f, header)?;
-let t = m.handles;
-            Ok(Opened {
-                header: header,
-                handles: t.count,
-            })
+    let t = m.handles;
+    Ok(Opened {
+        header: header,
+        handles: t.count,
+    })
 }
 
 // The header, and how many method handles the map gives.
@@ -77,5 +77,5 @@ pub fn open(f: &[u8]) -> Result<Opened, Refusal>
     ensures { opened_outcome result ≡ opened_at f.now }
 {
     let header = header::header_of(f)?;
-mapped(f, header)
+    mapped(f, header)
 }

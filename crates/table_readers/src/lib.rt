@@ -24,4 +24,3 @@ pub struct Opened {
     pub header: Header,
     pub handles: u32,
 }
-

@@ -13,7 +13,7 @@ pub fn string(f: &[u8], n: u32) -> Result<TextPlace, Refusal>
     ensures { text_outcome result ≡ string_extent_of f.now n }
 {
     let header = header::header_of(f)?;
-string_in(f, header, n)
+    string_in(f, header, n)
 }
 
 fn string_in(f: &[u8], header: Header, n: u32) -> Result<TextPlace, Refusal>
@@ -32,7 +32,13 @@ pub fn string_bytes(f: &[u8], n: u32) -> &[u8]
 {
     match string(f, n) {
         Err(_) => &f[0..0],
-        Ok(TextPlace { start, length, units: _ }) => word::bytes_at(f, start, length),
+        Ok(
+            TextPlace {
+                start,
+                length,
+                units: _,
+            },
+        ) => word::bytes_at(f, start, length),
     }
 }
 
@@ -41,5 +47,5 @@ pub fn find_string(f: &[u8], text: &[u8]) -> Result<Option<u32>, Refusal>
     ensures { lookup_outcome result ≡ find_string f.now text.now }
 {
     let header = header::header_of(f)?;
-string_ids::look_up(f, header, text)
+    string_ids::look_up(f, header, text)
 }

@@ -13,7 +13,7 @@ pub fn type_name(f: &[u8], n: u32) -> Result<u32, Refusal>
     ensures { index_outcome result ≡ type_name f.now n }
 {
     let header = header::header_of(f)?;
-type_in(f, header, n)
+    type_in(f, header, n)
 }
 
 fn type_in(f: &[u8], header: Header, n: u32) -> Result<u32, Refusal>
@@ -31,7 +31,7 @@ pub fn proto(f: &[u8], n: u32) -> Result<Proto, Refusal>
     ensures { proto_outcome result ≡ proto_number f.now n }
 {
     let header = header::header_of(f)?;
-proto_in(f, header, n)
+    proto_in(f, header, n)
 }
 
 pub fn proto_in(f: &[u8], header: Header, n: u32) -> Result<Proto, Refusal>
@@ -49,7 +49,7 @@ pub fn field(f: &[u8], n: u32) -> Result<MemberId, Refusal>
     ensures { member_id_outcome result ≡ field_number f.now n }
 {
     let header = header::header_of(f)?;
-field_in(f, header, n)
+    field_in(f, header, n)
 }
 
 fn field_in(f: &[u8], header: Header, n: u32) -> Result<MemberId, Refusal>
@@ -68,7 +68,7 @@ pub fn method(f: &[u8], n: u32) -> Result<MemberId, Refusal>
     ensures { member_id_outcome result ≡ method_number f.now n }
 {
     let header = header::header_of(f)?;
-method_in(f, header, n)
+    method_in(f, header, n)
 }
 
 fn method_in(f: &[u8], header: Header, n: u32) -> Result<MemberId, Refusal>
@@ -87,7 +87,7 @@ pub fn class(f: &[u8], n: u32) -> Result<Class, Refusal>
     ensures { class_outcome result ≡ class_number f.now n }
 {
     let header = header::header_of(f)?;
-class_in(f, header, n)
+    class_in(f, header, n)
 }
 
 pub fn class_in(f: &[u8], header: Header, n: u32) -> Result<Class, Refusal>
@@ -105,14 +105,14 @@ pub fn handle(f: &[u8], n: u32) -> Result<Handle, Refusal>
     ensures { handle_outcome result ≡ handle_number f.now n }
 {
     let header = header::header_of(f)?;
-handle_in(f, header, n)
+    handle_in(f, header, n)
 }
 
 fn handle_in(f: &[u8], header: Header, n: u32) -> Result<Handle, Refusal>
     ensures { handle_outcome result ≡ handle_in f.now n header }
 {
     let m = map_list::map_of(f, header)?;
-handle_under(f, header, m, n)
+    handle_under(f, header, m, n)
 }
 
 fn handle_under(f: &[u8], header: Header, m: MapList, n: u32) -> Result<Handle, Refusal>

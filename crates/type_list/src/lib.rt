@@ -61,7 +61,7 @@ fn count_at(s: &[u8], j: TypeListJudge) -> Result<u32, Refusal>
         return Err(refusal::runs_past(at));
     }
     all(s, j, count)?;
-Ok(count)
+    Ok(count)
 }
 
 // Entry k of a list that obeys its rules.
@@ -69,10 +69,10 @@ pub fn type_at(s: &[u8], j: TypeListJudge, k: u32) -> Result<u32, Refusal>
     ensures { type_outcome result ≡ number_at s.now j k }
 {
     let count = count_at(s, j)?;
-if k < count {
-                return Ok(entry_number(s, j, k));
-            }
-            Err(refusal::not_there())
+    if k < count {
+        return Ok(entry_number(s, j, k));
+    }
+    Err(refusal::not_there())
 }
 
 // How many types the list at an offset has, 0 where it is absent.
@@ -99,5 +99,5 @@ pub fn check_types(f: &[u8], header: Header, at: u32) -> Result<(), Refusal>
     ensures { checked_outcome result ≡ types_accepted f.now header at }
 {
     list_count(f, header, at)?;
-Ok(())
+    Ok(())
 }

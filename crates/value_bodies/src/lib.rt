@@ -30,8 +30,8 @@ pub fn array_count(s: &[u8], w: Walk, at: usize) -> Result<u32, Refusal>
     ensures { count_outcome result ≡ array_count s.now w at }
 {
     encoded_value::top_array(s, w, at)?;
-let Read { value, .. } = leb128::uleb(s, at, w.item)?;
-Ok(value)
+    let Read { value, .. } = leb128::uleb(s, at, w.item)?;
+    Ok(value)
 }
 
 // Where k values end, one after the other.
@@ -41,7 +41,7 @@ fn values_past(s: &[u8], w: Walk, from: usize, k: u32) -> Result<usize, Refusal>
     let mut p = from;
     for _ in 0..k {
         let next = encoded_value::value(s, w, p, DEEPEST_VALUE)?;
-p = next;
+        p = next;
     }
     Ok(p)
 }
@@ -51,8 +51,8 @@ fn kth_value(s: &[u8], w: Walk, from: usize, k: u32) -> Result<Value, Refusal>
     ensures { picked_outcome result ≡ kth_value s.now w from k }
 {
     let at = values_past(s, w, from, k)?;
-let Read { value, .. } = decoded_value::decode_at(s, w, at, DEEPEST_VALUE)?;
-Ok(value)
+    let Read { value, .. } = decoded_value::decode_at(s, w, at, DEEPEST_VALUE)?;
+    Ok(value)
 }
 
 // Number k of the values of the array at a place.
@@ -60,11 +60,11 @@ pub fn array_value(s: &[u8], w: Walk, at: usize, k: u32) -> Result<Value, Refusa
     ensures { picked_outcome result ≡ array_value s.now w at k }
 {
     encoded_value::top_array(s, w, at)?;
-let Read { value: count, next } = leb128::uleb(s, at, w.item)?;
-if k < count {
-                    return kth_value(s, w, next, k);
-                }
-                Err(refusal::not_there())
+    let Read { value: count, next } = leb128::uleb(s, at, w.item)?;
+    if k < count {
+        return kth_value(s, w, next, k);
+    }
+    Err(refusal::not_there())
 }
 
 // The type of the annotation at a place, and how many elements it has.
@@ -72,9 +72,12 @@ pub fn annotation_head(s: &[u8], w: Walk, at: usize) -> Result<AnnotationHead, R
     ensures { annotation_head_outcome result ≡ annotation_noted s.now w at }
 {
     encoded_value::top_annotation(s, w, at)?;
-let Read { value: type_index, next } = value_heads::index_at(s, w.item, w.types, at)?;
-let Read { value: count, .. } = leb128::uleb(s, next, w.item)?;
-Ok(AnnotationHead { type_index, count })
+    let Read {
+        value: type_index,
+        next,
+    } = value_heads::index_at(s, w.item, w.types, at)?;
+    let Read { value: count, .. } = leb128::uleb(s, next, w.item)?;
+    Ok(AnnotationHead { type_index, count })
 }
 
 // Where k elements end, one after the other.
@@ -84,13 +87,8 @@ fn elements_past(s: &[u8], w: Walk, from: usize, k: u32) -> Result<usize, Refusa
     let mut p = from;
     for _ in 0..k {
         let Read { next: at, .. } = value_heads::index_at(s, w.item, w.strings, p)?;
-let next = encoded_value::value(
-                s,
-                w,
-                at,
-                DEEPEST_VALUE,
-            )?;
-p = next;
+        let next = encoded_value::value(s, w, at, DEEPEST_VALUE)?;
+        p = next;
     }
     Ok(p)
 }
@@ -100,13 +98,8 @@ fn element_at(s: &[u8], w: Walk, at: usize) -> Result<Element, Refusal>
     ensures { element_outcome result ≡ element_there s.now w at }
 {
     let Read { value: name, next } = value_heads::index_at(s, w.item, w.strings, at)?;
-let Read { value, .. } = decoded_value::decode_at(
-            s,
-            w,
-            next,
-            DEEPEST_VALUE,
-        )?;
-Ok(Element { name, value })
+    let Read { value, .. } = decoded_value::decode_at(s, w, next, DEEPEST_VALUE)?;
+    Ok(Element { name, value })
 }
 
 // The element behind k others.
@@ -114,7 +107,7 @@ fn kth_element(s: &[u8], w: Walk, from: usize, k: u32) -> Result<Element, Refusa
     ensures { element_outcome result ≡ kth_element s.now w from k }
 {
     let at = elements_past(s, w, from, k)?;
-element_at(s, w, at)
+    element_at(s, w, at)
 }
 
 // Number k of the elements of the annotation at a place.
@@ -122,9 +115,9 @@ pub fn annotation_element(s: &[u8], w: Walk, at: usize, k: u32) -> Result<Elemen
     ensures { element_outcome result ≡ annotation_element s.now w at k }
 {
     encoded_value::top_annotation(s, w, at)?;
-let Read { value: count, next } = encoded_value::annotation_start(s, w, at)?;
-if k < count {
-                    return kth_element(s, w, next, k);
-                }
-                Err(refusal::not_there())
+    let Read { value: count, next } = encoded_value::annotation_start(s, w, at)?;
+    if k < count {
+        return kth_element(s, w, next, k);
+    }
+    Err(refusal::not_there())
 }

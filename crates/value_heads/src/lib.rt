@@ -125,7 +125,10 @@ fn number_at(s: &[u8], item: usize, at: usize, head: u8) -> Result<Read<u64>, Re
 {
     let n = size_of(head);
     if word::has_room(s.len(), at, n) {
-        return Ok(Read { value: joined(s, at, n), next: at + n });
+        return Ok(Read {
+            value: joined(s, at, n),
+            next: at + n,
+        });
     }
     Err(refusal::runs_past(item))
 }
@@ -145,10 +148,10 @@ pub fn checked_number(s: &[u8], w: Walk, at: usize, head: u8) -> Result<Read<u64
     ensures { (number_outcome result ≡ checked_at s.now w head at) × Small head result }
 {
     let Read { value, next } = number_at(s, w.item, at, head)?;
-if is_in_range(w, head % 32, value) {
-                return Ok(Read { value, next });
-            }
-            Err(refusal::wrong_index(w.item))
+    if is_in_range(w, head % 32, value) {
+        return Ok(Read { value, next });
+    }
+    Err(refusal::wrong_index(w.item))
 }
 
 // A LEB128 number that is an index below a count.
@@ -156,8 +159,8 @@ pub fn index_at(s: &[u8], item: usize, count: u32, at: usize) -> Result<Read<u32
     ensures { leb_outcome result ≡ index_at s.now item count at }
 {
     let Read { value, next } = leb128::uleb(s, at, item)?;
-if value < count {
-                return Ok(Read { value, next });
-            }
-            Err(refusal::wrong_index(item))
+    if value < count {
+        return Ok(Read { value, next });
+    }
+    Err(refusal::wrong_index(item))
 }

@@ -4,18 +4,21 @@ ghost use Rattle.value_bodies.specs.Answers.{picked_outcome, element_outcome};
 ghost use Rattle.value_readers.specs.Bodies.{array_body, noted_body, array_of, array_value_of, body_of, body_element_of};
 ghost use Rattle.value_readers.specs.Answers.{array_outcome, body_outcome};
 
-use super::{Result<ArrayOutline, Refusal>, Result<BodyOutline, Refusal>};
-use value_heads::Walk;
+use super::{ArrayOutline, BodyOutline};
 use refusal::Refusal;
 use value_bodies::{AnnotationHead, Element};
+use value_heads::Walk;
 
 // An array's size, and its length in bytes.
 fn array_body(s: &[u8], w: Walk, place: usize) -> Result<ArrayOutline, Refusal>
     ensures { array_outcome result ≡ array_body s.now w place }
 {
     let count = value_bodies::array_count(s, w, place)?;
-let end = encoded_value::top_array(s, w, place)?;
-Ok(ArrayOutline { count, length: end - place })
+    let end = encoded_value::top_array(s, w, place)?;
+    Ok(ArrayOutline {
+        count,
+        length: end - place,
+    })
 }
 
 // The size of the array at a place, and its length in bytes.
@@ -23,12 +26,12 @@ pub fn array(f: &[u8], place: usize) -> Result<ArrayOutline, Refusal>
     ensures { array_outcome result ≡ array_of f.now place }
 {
     let o = super::opening::open_within(f, place)?;
-let header = o.header;
-            array_body(
-                header::up_to_end(f, header),
-                super::opening::walk_in(header, o.handles, place),
-                place,
-            )
+    let header = o.header;
+    array_body(
+        header::up_to_end(f, header),
+        super::opening::walk_in(header, o.handles, place),
+        place,
+    )
 }
 
 // Value k of the array at a place.
@@ -36,13 +39,13 @@ pub fn array_value(f: &[u8], place: usize, k: u32) -> Result<Value, Refusal>
     ensures { picked_outcome result ≡ array_value_of f.now place k }
 {
     let o = super::opening::open_within(f, place)?;
-let header = o.header;
-            value_bodies::array_value(
-                header::up_to_end(f, header),
-                super::opening::walk_in(header, o.handles, place),
-                place,
-                k,
-            )
+    let header = o.header;
+    value_bodies::array_value(
+        header::up_to_end(f, header),
+        super::opening::walk_in(header, o.handles, place),
+        place,
+        k,
+    )
 }
 
 // An annotation body's type and size, and its length in bytes.
@@ -50,10 +53,12 @@ fn noted_body(s: &[u8], w: Walk, place: usize) -> Result<BodyOutline, Refusal>
     ensures { body_outcome result ≡ noted_body s.now w place }
 {
     let AnnotationHead { type_index, count } = value_bodies::annotation_head(s, w, place)?;
-let end = encoded_value::top_annotation(
-            s, w, place,
-        )?;
-Ok(BodyOutline { type_index, count, length: end - place })
+    let end = encoded_value::top_annotation(s, w, place)?;
+    Ok(BodyOutline {
+        type_index,
+        count,
+        length: end - place,
+    })
 }
 
 // The type and the size of the annotation body at a place, and its length in bytes.
@@ -61,12 +66,12 @@ pub fn annotation_body(f: &[u8], place: usize) -> Result<BodyOutline, Refusal>
     ensures { body_outcome result ≡ body_of f.now place }
 {
     let o = super::opening::open_within(f, place)?;
-let header = o.header;
-            noted_body(
-                header::up_to_end(f, header),
-                super::opening::walk_in(header, o.handles, place),
-                place,
-            )
+    let header = o.header;
+    noted_body(
+        header::up_to_end(f, header),
+        super::opening::walk_in(header, o.handles, place),
+        place,
+    )
 }
 
 // Element k of the annotation body at a place.
@@ -74,11 +79,11 @@ pub fn annotation_body_element(f: &[u8], place: usize, k: u32) -> Result<Element
     ensures { element_outcome result ≡ body_element_of f.now place k }
 {
     let o = super::opening::open_within(f, place)?;
-let header = o.header;
-            value_bodies::annotation_element(
-                header::up_to_end(f, header),
-                super::opening::walk_in(header, o.handles, place),
-                place,
-                k,
-            )
+    let header = o.header;
+    value_bodies::annotation_element(
+        header::up_to_end(f, header),
+        super::opening::walk_in(header, o.handles, place),
+        place,
+        k,
+    )
 }

@@ -27,4 +27,3 @@ pub struct BodyOutline {
     pub count: u32,
     pub length: usize,
 }
-

@@ -4,19 +4,19 @@ ghost use Rattle.table_readers.specs.Answers.{opened_outcome};
 ghost use Rattle.value_readers.specs.Opening.{walk_in, opened_within};
 
 use header::Header;
-use value_heads::Walk;
 use refusal::Refusal;
+use value_heads::Walk;
 
 // The file opened, 7 for a place outside its data section. Bodies and annotation items need no alignment.
 pub fn open_within(f: &[u8], place: usize) -> Result<Opened, Refusal>
     ensures { opened_outcome result ≡ opened_within f.now place }
 {
     let o = table_readers::open(f)?;
-let header = o.header;
-            if frame::is_allowed(header.start, header.end, false, place) {
-                return Ok(o);
-            }
-            Err(refusal::not_there())
+    let header = o.header;
+    if frame::is_allowed(header.start, header.end, false, place) {
+        return Ok(o);
+    }
+    Err(refusal::not_there())
 }
 
 // What the item at a place is read against.

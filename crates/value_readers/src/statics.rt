@@ -25,7 +25,7 @@ fn values_under(f: &[u8], header: Header, handles: u32, c: u32) -> Result<u32, R
     ensures { count_outcome result ≡ values_under f.now c header handles }
 {
     let found = table_readers::class_in(f, header, c)?;
-values_in(f, header, handles, found.values)
+    values_in(f, header, handles, found.values)
 }
 
 // How many static values class c has.
@@ -33,8 +33,8 @@ pub fn static_value_count(f: &[u8], c: u32) -> Result<u32, Refusal>
     ensures { count_outcome result ≡ static_count f.now c }
 {
     let o = table_readers::open(f)?;
-let header = o.header;
-            values_under(f, header, o.handles, c)
+    let header = o.header;
+    values_under(f, header, o.handles, c)
 }
 
 // Value k of the array of a class.
@@ -57,7 +57,7 @@ fn value_under(f: &[u8], header: Header, handles: u32, c: u32, k: u32) -> Result
     ensures { picked_outcome result ≡ value_under f.now c k header handles }
 {
     let found = table_readers::class_in(f, header, c)?;
-value_in(f, header, handles, found.values, k)
+    value_in(f, header, handles, found.values, k)
 }
 
 // Static value k of class c.
@@ -65,6 +65,6 @@ pub fn static_value(f: &[u8], c: u32, k: u32) -> Result<Value, Refusal>
     ensures { picked_outcome result ≡ static_value f.now c k }
 {
     let o = table_readers::open(f)?;
-let header = o.header;
-            value_under(f, header, o.handles, c, k)
+    let header = o.header;
+    value_under(f, header, o.handles, c, k)
 }

@@ -3,4 +3,3 @@
 
 use header::Header;
 use refusal::Refusal;
-

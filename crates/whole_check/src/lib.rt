@@ -19,8 +19,8 @@ fn names_pass(f: &[u8], header: Header) -> Result<(), Refusal>
     let types = header.types;
     let protos = header.protos;
     string_ids::check_strings(f, header)?;
-tables::types_pass(f, header::plain_frame(header), types.offset, types.count)?;
-tables::protos_pass(f, header, protos.count)
+    tables::types_pass(f, header::plain_frame(header), types.offset, types.count)?;
+    tables::protos_pass(f, header, protos.count)
 }
 
 // Fields and methods.
@@ -33,7 +33,7 @@ fn records_pass(f: &[u8], header: Header) -> Result<(), Refusal>
     let methods = header.methods;
     let frame = header::plain_frame(header);
     tables::members_pass(f, frame, types.count, fields.offset, fields.count)?;
-tables::members_pass(f, frame, protos.count, methods.offset, methods.count)
+    tables::members_pass(f, frame, protos.count, methods.offset, methods.count)
 }
 
 // Method handles, and classes with all below them.
@@ -42,23 +42,23 @@ fn items_pass(f: &[u8], header: Header, t: Table) -> Result<(), Refusal>
 {
     let classes = header.classes;
     tables::handles_pass(f, header::frame_of(header, t.count), t.offset, t.count)?;
-tables::classes_pass(f, header, t.count, classes.count)
+    tables::classes_pass(f, header, t.count, classes.count)
 }
 
 fn tables_pass(f: &[u8], header: Header, t: Table) -> Result<(), Refusal>
     ensures { checked_outcome result ≡ tables_pass f.now header t }
 {
     names_pass(f, header)?;
-records_pass(f, header)?;
-items_pass(f, header, t)
+    records_pass(f, header)?;
+    items_pass(f, header, t)
 }
 
 fn check_in(f: &[u8], header: Header) -> Result<(), Refusal>
     ensures { checked_outcome result ≡ pass_in f.now header }
 {
     let m = map_list::map_of(f, header)?;
-let t = m.handles;
-            tables_pass(f, header, t)
+    let t = m.handles;
+    tables_pass(f, header, t)
 }
 
 // A file with a good header: what the rest comes to.
@@ -66,7 +66,7 @@ fn verdict_in(f: &[u8], header: Header) -> Result<Header, Refusal>
     ensures { verdict_outcome result ≡ verdict_in f.now header }
 {
     check_in(f, header)?;
-Ok(header)
+    Ok(header)
 }
 
 // The header of an accepted file, which is read once, or the first broken rule in document 01's order.
@@ -74,7 +74,7 @@ pub fn verdict(f: &[u8]) -> Result<Header, Refusal>
     ensures { verdict_outcome result ≡ verdict_at f.now }
 {
     let header = header::header_of(f)?;
-verdict_in(f, header)
+    verdict_in(f, header)
 }
 
 // Accepted, or the first broken rule in document 01's order.
@@ -82,5 +82,5 @@ pub fn check(f: &[u8]) -> Result<(), Refusal>
     ensures { checked_outcome result ≡ check_at f.now }
 {
     verdict(f)?;
-Ok(())
+    Ok(())
 }

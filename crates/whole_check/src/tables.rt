@@ -32,11 +32,11 @@ pub fn types_pass(f: &[u8], frame: Frame, offset: u32, count: u32) -> Result<(),
     let mut last: u32 = 0;
     for k in 0..count {
         let string = ids::type_at(f, frame, offset, k)?;
-if rises(later, last, string) {
-                    last = string;
-                } else {
-                    return Err(refusal::out_of_order(place_of(offset, k)));
-                }
+        if rises(later, last, string) {
+            last = string;
+        } else {
+            return Err(refusal::out_of_order(place_of(offset, k)));
+        }
         later = true;
     }
     Ok(())
@@ -48,7 +48,7 @@ fn proto_pass(f: &[u8], header: Header, n: u32) -> Result<(), Refusal>
 {
     let t = header.protos;
     let p = ids::proto_at(f, header::plain_frame(header), header.end, t.offset, n)?;
-type_list::check_types(f, header, p.parameters)
+    type_list::check_types(f, header, p.parameters)
 }
 
 pub fn protos_pass(f: &[u8], header: Header, count: u32) -> Result<(), Refusal>
@@ -65,10 +65,16 @@ fn member_pass(f: &[u8], frame: Frame, kinds: u32, offset: u32, n: u32) -> Resul
     ensures { checked_outcome result ≡ member_pass f.now frame kinds offset n }
 {
     ids::member_at(f, frame, kinds, offset, n)?;
-Ok(())
+    Ok(())
 }
 
-pub fn members_pass(f: &[u8], frame: Frame, kinds: u32, offset: u32, count: u32) -> Result<(), Refusal>
+pub fn members_pass(
+    f: &[u8],
+    frame: Frame,
+    kinds: u32,
+    offset: u32,
+    count: u32,
+) -> Result<(), Refusal>
     ensures { checked_outcome result ≡ members_pass f.now frame kinds offset count }
 {
     for k in 0..count {
@@ -81,7 +87,7 @@ fn handle_pass(f: &[u8], frame: Frame, offset: u32, n: u32) -> Result<(), Refusa
     ensures { checked_outcome result ≡ handle_pass f.now frame offset n }
 {
     ids::handle_at(f, frame, offset, n)?;
-Ok(())
+    Ok(())
 }
 
 pub fn handles_pass(f: &[u8], frame: Frame, offset: u32, count: u32) -> Result<(), Refusal>
