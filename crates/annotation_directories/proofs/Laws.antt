@@ -14,14 +14,13 @@ use Rattle.refusal.specs.Refusals.{not_there, runs_past}
 use Rattle.refusal.specs.declared.Refusal.{Refusal}
 use Rattle.refusal.specs.Outcome.{Outcome, answer, refused, ◌>>=◌, accepted}
 use Rattle.refusal.specs.Rows.{Found, past}
-use Rattle.refusal.proofs.Laws.{said, calls, tests, bind_answer, bind_refused, refused_by, passes, fails}
+use Rattle.refusal.proofs.Laws.{calls, tests, bind_answer, bind_refused, refused_by, passes, fails}
 use Rattle.refusal.proofs.Each.{at_below}
 use Rattle.refusal.specs.Answers.{checked_outcome}
-use Rattle.refusal.proofs.Kept.{on_checked, accepted_answer, accepted_refused, part_answer, part_refused}
+use Rattle.refusal.proofs.Kept.{accepted_answer, accepted_refused, part_answer, part_refused}
 use Rattle.word.specs.Words.{u32_at}
 use Rattle.frame.specs.declared.Frame.{Frame}
 use Rattle.word.proofs.Laws.{room_there, room_fits}
-use Rattle.encoded_value.proofs.Leaves.{on_step}
 use Rattle.value_bodies.proofs.Picks.{pick_none}
 use Rattle.annotation_lists.specs.Fixed.{entries_from, fixed_at, Fixed}
 use Rattle.annotation_lists.specs.Offsets.{word_at}
@@ -40,10 +39,7 @@ use Rattle.annotation_lists.specs.Answers.{word_outcome}
 use Rattle.annotation_directories.specs.Answers.{directory_entry_outcome, directory_head_outcome}
 use Rattle.annotation_lists.proofs.Fixed.{Along, along_first, along_next, along_stop, along_done, along_eight, fixed_kth}
 use Rattle.annotation_directories.proofs.Exactly.{head_exact, entry_exact, lists_exact, directory_exact}
-use Rattle.annotation_lists.proofs.Laws.{on_word, word_inside}
-
-pub on_head : {B : Type 0} {x c : DirectoryHeadAnswer} {o : Outcome DirectoryHead} {y : Outcome B} (k : DirectoryHead → Outcome B) → directory_head_outcome x ≡ o → x ≡ c → y ≡ (directory_head_outcome c >>= k) → y ≡ (o >>= k)
-on_head = said directory_head_outcome
+use Rattle.annotation_lists.proofs.Laws.{word_inside}
 
 -- ---- the head
 module _ (s : List ℕ) (f : Frame) (item : ℕ) {x : WordAnswer} {v : ℕ} where
@@ -220,7 +216,7 @@ module _ (s : List ℕ) (f : Frame) (item : ℕ) where
                 ∙ fixed_kth (entry_at s f item (limit_of f list)) 8 (item + 16 + 8 * before_of h list) (count_of h list) (DirectoryEntryRule s f item (limit_of f list)) (entry_exact s f item (limit_of f list)) k rule (omega arith)
                 ∙ sym (bind_answer _ whole.1.0)
 
-pub ruleset head_laws = (on_word, word_inside, after_eight, after_twelve, four_fits, calls, tests, rules)
+pub ruleset head_laws = (word_inside, after_eight, after_twelve, four_fits, calls, tests, rules)
 
 pub ruleset entry_laws = (entry_by, eight_fits, calls, tests, rules)
 
@@ -228,9 +224,9 @@ pub ruleset entries_laws = (along_first, entry_next, entry_stop, along_done, alo
 
 pub ruleset list_laws = (list_long, list_stop, list_done, room_there, room_fits, rules)
 
-pub ruleset lists_laws = (lists_by, sixteen_fits, on_step, calls, rules)
+pub ruleset lists_laws = (lists_by, sixteen_fits, calls, rules)
 
-pub ruleset directory_laws = (directory_by, head_inside, on_head, on_checked, calls, rules)
+pub ruleset directory_laws = (directory_by, head_inside, calls, rules)
 
 pub ruleset number_laws = (tests, rules)
 

@@ -10,7 +10,7 @@ use mir.Syntax.{w64}
 use mir.Val.{Fits}
 use Rattle.refusal.specs.Outcome.{Outcome, answer, refused, ◌>>=◌}
 use Rattle.refusal.specs.Rows.{Found, past}
-use Rattle.refusal.proofs.Laws.{said, calls, tests}
+use Rattle.refusal.proofs.Laws.{calls, tests}
 use Rattle.frame.specs.declared.Frame.{Frame}
 use Rattle.value_heads.specs.declared.Walk.{Walk}
 use Rattle.encoded_value.specs.declared.StepAnswer.{StepAnswer}
@@ -28,9 +28,6 @@ use Rattle.annotation_items.specs.declared.VisibilityAnswer.{VisibilityAnswer}
 use Rattle.annotation_items.specs.declared.VisibilityAnswer.TheVariants as N
 use Rattle.annotation_items.specs.Answers.{visibility_outcome}
 use Rattle.annotation_items.proofs.Exactly.{visibility_exact}
-
-pub on_visibility : {B : Type 0} {x c : VisibilityAnswer} {o : Outcome ℕ} {y : Outcome B} (k : ℕ → Outcome B) → visibility_outcome x ≡ o → x ≡ c → y ≡ (visibility_outcome c >>= k) → y ≡ (o >>= k)
-on_visibility = said visibility_outcome
 
 -- the body behind a visibility that was read
 pub body_fits : (s : List ℕ) (item : ℕ) {x : VisibilityAnswer} {v : ℕ} → visibility_outcome x ≡ visibility_at s item → x ≡ N.Got v → Fits w64 (length s) → Fits w64 (item + 1)
@@ -82,4 +79,4 @@ module _ (s : List ℕ) (f : Frame) (item : ℕ) where
       go (answer v) (refused r) = refl
       go (refused r) p = refl
 
-pub ruleset laws = (visibility_by, summary_by, element_by, on_visibility, on_body, on_noted, on_element, body_fits, calls, tests, rules)
+pub ruleset laws = (visibility_by, summary_by, element_by, on_body, on_element, body_fits, calls, tests, rules)

@@ -13,7 +13,7 @@ use mir.Val.{Fits}
 use Rattle.refusal.specs.Refusals.{not_there, runs_past}
 use Rattle.refusal.specs.declared.Refusal.{Refusal}
 use Rattle.refusal.specs.Outcome.{Outcome, answer, refused, ◌>>=◌, accepted}
-use Rattle.refusal.proofs.Laws.{said, calls, tests, bind_answer, bind_refused, refused_by, passes, fails}
+use Rattle.refusal.proofs.Laws.{calls, tests, bind_answer, bind_refused, refused_by, passes, fails}
 use Rattle.refusal.specs.Answers.{checked_outcome}
 use Rattle.refusal.proofs.Kept.{accepted_answer, accepted_refused, part_answer, part_refused}
 use Rattle.refusal.proofs.Exact.{answers_equal, never}
@@ -31,10 +31,6 @@ use Rattle.annotation_lists.specs.declared.WordAnswer.TheVariants as W
 use Rattle.annotation_lists.specs.Answers.{word_outcome}
 use Rattle.annotation_lists.proofs.Fixed.{Along, along_first, along_next, along_stop, along_done, along_four, entries_exact, fixed_kth}
 use Rattle.annotation_lists.proofs.Exactly.{word_exact, offset_exact, offsets_exact}
-
--- a call's answer, by the arm that was taken
-pub on_word : {B : Type 0} {x c : WordAnswer} {o : Outcome ℕ} {y : Outcome B} (k : ℕ → Outcome B) → word_outcome x ≡ o → x ≡ c → y ≡ (word_outcome c >>= k) → y ≡ (o >>= k)
-on_word = said word_outcome
 
 -- a word that was read lies inside
 pub word_inside : (s : List ℕ) (f : Frame) (item p : ℕ) {x : WordAnswer} {v : ℕ} → word_outcome x ≡ word_at s f item p → x ≡ W.Got v → p + 4 ≤ length s

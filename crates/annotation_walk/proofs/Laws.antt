@@ -16,7 +16,7 @@ use Rattle.refusal.specs.Rows.{Found, in_front, collect, numbered, every}
 use Rattle.refusal.proofs.Laws.{calls, tests, absent_there, present_there}
 use Rattle.refusal.specs.Answers.{checked_outcome}
 use Rattle.refusal.proofs.Exact.{never}
-use Rattle.refusal.proofs.Kept.{on_checked, accepted_answer, accepted_refused, part_answer, part_refused, kept_part, kept_on, made_kept, unit_kept, absent_kept, present_kept}
+use Rattle.refusal.proofs.Kept.{accepted_answer, accepted_refused, part_answer, part_refused, kept_part, kept_on, made_kept, unit_kept, absent_kept, present_kept}
 use Rattle.word.specs.Words.{u32_at}
 use Rattle.frame.specs.declared.Frame.{Frame}
 use Rattle.annotation_directories.specs.declared.DirectoryHead.{DirectoryHead}
@@ -34,8 +34,8 @@ use Rattle.annotation_lists.specs.Offsets.{offsets_at, offset_count}
 use Rattle.annotation_directories.specs.Directories.{Directory, directory_at, directory_head}
 use Rattle.annotation_items.specs.Items.{AnnotationItem, item_at, item_visibility}
 use Rattle.annotation_lists.proofs.Fixed.{Along, along_first, along_next, along_stop, along_done, along_four, along_eight}
-use Rattle.annotation_lists.proofs.Laws.{on_word, count_room}
-use Rattle.annotation_directories.proofs.Laws.{on_head, directory_room}
+use Rattle.annotation_lists.proofs.Laws.{count_room}
+use Rattle.annotation_directories.proofs.Laws.{directory_room}
 use Rattle.annotation_walk.specs.Below.{item_from, set_below, set_from, references_below, entry_from, head_below, directory_below, items_pass, own_accepted, sets_pass, one_below, one_from, below_pass, lists_below}
 
 -- ---- the loops
@@ -180,6 +180,6 @@ pub ruleset set_laws = (along_first, set_next, set_stop, along_done, along_four,
 
 pub ruleset one_laws = (along_first, one_next, one_stop, along_done, along_eight, one_fits, rules)
 
-pub ruleset stage_laws = (set_by, references_by, directory_by, absent_kept, present_kept, count_room, directory_room, four_fits, on_word, on_head, calls, tests, rules)
+pub ruleset stage_laws = (set_by, references_by, directory_by, absent_kept, present_kept, count_room, directory_room, four_fits, calls, tests, rules)
 
-pub ruleset list_laws = (lists_by, fields_room, methods_room, head_fits, fields_fits, methods_fits, on_checked, calls, rules)
+pub ruleset list_laws = (lists_by, fields_room, methods_room, head_fits, fields_fits, methods_fits, calls, rules)

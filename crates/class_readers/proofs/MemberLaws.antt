@@ -8,7 +8,7 @@ use mathlib.Core.List.{List}
 use borrow.Author.Rules.{rules}
 use Rattle.refusal.specs.declared.Refusal.{Refusal}
 use Rattle.refusal.specs.Outcome.{Outcome, ◌>>=◌}
-use Rattle.refusal.proofs.Laws.{said, calls}
+use Rattle.refusal.proofs.Laws.{calls}
 use Rattle.access_flags.specs.Flags.{content}
 use Rattle.access_flags.proofs.Laws.{laws as flag-laws}
 use Rattle.class_members.specs.declared.Member.{Member}
@@ -17,9 +17,6 @@ use Rattle.class_readers.specs.declared.MaybeMemberAnswer.TheVariants.{Absent, G
 use Rattle.class_readers.specs.Members.{member_number, content_of, member_content}
 use Rattle.class_readers.specs.Answers.{maybe_member}
 use Rattle.class_readers.proofs.SpotLaws.{stays_none, goes_onward}
-
-pub on_member : {B : Type 0} {x c : MaybeMemberAnswer} {o : Outcome (Option Member)} {y : Outcome B} (k : Option Member → Outcome B) → maybe_member x ≡ o → x ≡ c → y ≡ (maybe_member c >>= k) → y ≡ (o >>= k)
-on_member = said maybe_member
 
 module _ (f : List ℕ) (c list k : ℕ) (out : List ℕ) {x : MaybeMemberAnswer} (e : maybe_member x ≡ member_number f c list k) where
   pub content_refused : {r : Refusal} → x ≡ Refused r → out ≡ member_content f c list k out
@@ -34,4 +31,4 @@ module _ (f : List ℕ) (c list k : ℕ) (out : List ℕ) {x : MaybeMemberAnswer
   unfolding member_content content_of
   content_written t q = q ∙ ap (λ (o : Outcome (Option Member)). content_of o out) (sym (ap maybe_member t) ∙ e)
 
-pub ruleset laws = (on_member, content_refused, content_absent, content_written, stays_none, goes_onward, flag-laws, calls, rules)
+pub ruleset laws = (content_refused, content_absent, content_written, stays_none, goes_onward, flag-laws, calls, rules)

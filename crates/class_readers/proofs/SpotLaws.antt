@@ -8,7 +8,7 @@ use mathlib.Core.List.{List}
 use borrow.Author.Rules.{rules}
 use Rattle.refusal.specs.Outcome.{Outcome, answer, ◌>>=◌}
 use Rattle.refusal.specs.Rows.{Found}
-use Rattle.refusal.proofs.Laws.{said, tests, calls}
+use Rattle.refusal.proofs.Laws.{tests, calls}
 use Rattle.frame.specs.declared.Frame.{Frame}
 use Rattle.header.specs.declared.Header.{Header}
 use Rattle.header.specs.Header.{up_to_end, plain_frame}
@@ -28,9 +28,6 @@ use Rattle.class_readers.specs.declared.Spot.{Spot}
 use Rattle.class_readers.specs.declared.SpotAnswer.{SpotAnswer}
 use Rattle.class_readers.specs.Spots.{onward}
 use Rattle.class_readers.specs.Answers.{spot_outcome}
-
-pub on_spot : {B : Type 0} {x c : SpotAnswer} {o : Outcome (Option Spot)} {y : Outcome B} (k : Option Spot → Outcome B) → spot_outcome x ≡ o → x ≡ c → y ≡ (spot_outcome c >>= k) → y ≡ (o >>= k)
-on_spot = said spot_outcome
 
 -- none stays none, and otherwise there is more to read
 pub stays_none : {A B : Type 0} (k : A → Outcome (Option B)) → answer none ≡ onward k none
@@ -60,6 +57,6 @@ module _ (f : List ℕ) (h : Header) (p : ℕ) {s : List ℕ} {r : Frame} {B : T
   code_framed = framed code_outcome (λ (l : List ℕ) (t : Frame). outline_at l t p) f h
 
 -- a reader that begins where an item lies, and one of what lies there
-pub ruleset laws = (on_spot, stays_none, goes_onward, header-laws, class-laws, calls, tests, rules)
+pub ruleset laws = (stays_none, goes_onward, header-laws, class-laws, calls, tests, rules)
 
 pub ruleset under_laws = (data_framed, member_framed, code_framed, calls, tests, rules)

@@ -17,7 +17,7 @@ use Rattle.refusal.specs.declared.CheckAnswer.TheVariants as C
 use Rattle.refusal.specs.Outcome.{Outcome, answer, refused, ◌>>=◌, given, present, accepted}
 use Rattle.refusal.specs.Rows.{Found, past, collect, through, with_below}
 use Rattle.refusal.specs.Answers.{checked_outcome}
-use Rattle.refusal.proofs.Laws.{said, bind_answer, bind_refused, picks, leaves, passes, fails, tests, calls}
+use Rattle.refusal.proofs.Laws.{bind_answer, bind_refused, picks, leaves, passes, fails, tests, calls}
 use Rattle.refusal.proofs.Rows.{bind_assoc}
 use Rattle.refusal.proofs.Kept.{kept, accepted_answer, accepted_refused, kept_part, kept_on, made_kept}
 use Rattle.refusal.proofs.Through.{gone_over}
@@ -44,21 +44,18 @@ use Rattle.class_data.specs.Data.{ClassData, class_data_at, methods_at, methods_
 use Rattle.class_members.specs.Rules.{MembersRule}
 use Rattle.class_members.proofs.Exactly.{members_read}
 use Rattle.class_data.proofs.Exactly.{data_exact}
-use Rattle.class_data.proofs.Laws.{on_methods}
 use Rattle.code_item.specs.declared.Outline.{Outline}
 use Rattle.code_item.specs.declared.CodeAnswer.{CodeAnswer}
 use Rattle.code_item.specs.Answers.{code_outcome}
 use Rattle.code_bodies.specs.Code.{code_at}
 use Rattle.code_item.specs.Code.{outline, outline_at}
 use Rattle.debug_info.specs.Debug.{debug_at, extent_at}
-use Rattle.debug_info.proofs.Laws.{on_debug}
 use Rattle.value_heads.specs.declared.Walk.{Walk}
 use Rattle.value_heads.specs.Kinds.{walk_of}
 use Rattle.encoded_value.specs.Tree.{Tree}
 use Rattle.encoded_value.specs.Depth.{deepest}
 use Rattle.encoded_value.specs.Rules.{ValueRow, no_value, next_value, ArrayBody, array_body}
 use Rattle.encoded_value.specs.Readings.{array_at, past_array}
-use Rattle.encoded_value.proofs.Leaves.{on_step}
 use Rattle.annotation_walk.specs.Below.{directory_below}
 use Rattle.type_list.specs.Below.{types_below}
 use Rattle.class_walk.specs.declared.PassedAnswer.{PassedAnswer}
@@ -72,9 +69,6 @@ use Rattle.class_walk.proofs.Exactly.{led_exact}
 pub debug_by : (s : List ℕ) (strings item : ℕ) {y : Outcome Unit} → y ≡ (extent_at s strings item >>= accepted) → y ≡ (debug_at s strings item >>= accepted)
 unfolding extent_at
 debug_by s strings item e = e ∙ made_kept _ (debug_at s strings item)
-
-pub on_code : {B : Type 0} {x c : CodeAnswer} {o : Outcome Outline} {y : Outcome B} (k : Outline → Outcome B) → code_outcome x ≡ o → x ≡ c → y ≡ (code_outcome c >>= k) → y ≡ (o >>= k)
-on_code = said code_outcome
 
 module _ (s : List ℕ) (f : Frame) where
   pub body_by : (item : ℕ) {y : Outcome Unit} → y ≡ (outline_at s f item >>= λ (o : Outline). debug_accepted s f.strings o.head.debug) → y ≡ (body_at s f item >>= accepted)
@@ -170,9 +164,6 @@ module _ (s : List ℕ) (f : Frame) (item : ℕ) where
   unfolding data_below methods_at
   data_by e = e ∙ sym (kept_part (class_data_at s f item) methods_of _ (λ (m : Methods). both_pass s f item m) both_of)
 
-pub on_passed : {B : Type 0} {x c : PassedAnswer} {o : Outcome ℕ} {y : Outcome B} (k : ℕ → Outcome B) → passed_outcome x ≡ o → x ≡ c → y ≡ (passed_outcome c >>= k) → y ≡ (o >>= k)
-on_passed = said passed_outcome
-
 -- ---- directories and static values that may be absent
 module _ (f : List ℕ) (h : Header) (handles at : ℕ) {s : List ℕ} (e : s ≡ up_to_end f h) where
   pub directory_framed : {r : Frame} {y : Outcome Unit} → r ≡ frame_of h handles → y ≡ (directory_below s r at >>= accepted) → y ≡ (directory_below (up_to_end f h) (frame_of h handles) at >>= accepted)
@@ -265,13 +256,13 @@ module _ (f : List ℕ) (h : Header) (handles : ℕ) where
   unfolding fit_pass
   fit_refused place members values {s} {m} {n} {q} e v w l z = fails _ z (counted_by members values e v w ∙ lt-leb n m l)
 
-pub ruleset body_laws = (debug_by, on_debug, body_by, on_code, kept, calls, tests, rules)
+pub ruleset body_laws = (debug_by, body_by, kept, calls, tests, rules)
 
 pub ruleset loop_laws = (going_first, going_next, going_stop, going_fail, going_done, rules)
 
-pub ruleset data_laws = (data_by, on_methods, on_passed, calls, rules)
+pub ruleset data_laws = (data_by, calls, rules)
 
-pub ruleset framed = (directory_framed, data_framed, values_framed, on_step, kept, calls, rules)
+pub ruleset framed = (directory_framed, data_framed, values_framed, kept, calls, rules)
 
 pub ruleset first_laws = (first_absent, first_got, first_refused, rules)
 

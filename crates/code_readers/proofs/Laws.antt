@@ -13,7 +13,7 @@ use native.Mathlib.Omega.{arith}
 use Rattle.refusal.specs.Refusals.{no_room, runs_past}
 use Rattle.refusal.specs.declared.Refusal.{Refusal}
 use Rattle.refusal.specs.Outcome.{Outcome, answer, refused, ◌>>=◌, given}
-use Rattle.refusal.proofs.Laws.{said, calls, passes, picks}
+use Rattle.refusal.proofs.Laws.{calls, passes, picks}
 use Rattle.refusal.proofs.Exact.{never, answers_equal}
 use Rattle.word.specs.declared.Endian.{Endian}
 use Rattle.frame.specs.declared.Frame.{Frame}
@@ -43,10 +43,7 @@ use Rattle.class_readers.specs.Spots.{method_spot}
 use Rattle.code_readers.specs.Code.{code_in, units_under, units_over, units_in, units_content, units_into, units_written}
 use Rattle.class_readers.specs.Answers.{spot_outcome}
 use Rattle.code_readers.specs.Answers.{maybe_code}
-use Rattle.class_readers.proofs.SpotLaws.{on_spot, stays_none, goes_onward, framed}
-
-pub on_code : {B : Type 0} {x c : MaybeCodeAnswer} {o : Outcome (Option Outline)} {y : Outcome B} (k : Option Outline → Outcome B) → maybe_code x ≡ o → x ≡ c → y ≡ (maybe_code c >>= k) → y ≡ (o >>= k)
-on_code = said maybe_code
+use Rattle.class_readers.proofs.SpotLaws.{stays_none, goes_onward, framed}
 
 -- ---- tries and handlers that were read in the file up to the data section's end, s, against the file's counts, r
 module _ (f : List ℕ) (h : Header) (p : ℕ) {s : List ℕ} {r : Frame} {B : Type 0} {y : Outcome B} where
@@ -171,4 +168,4 @@ pub ruleset unit_laws = (units_framed, left_framed, calls, rules)
 
 pub ruleset whole_laws = (units_refused, left_refused, units_got, left_got, calls, rules)
 
-pub ruleset laws = (on_code, on_spot, stays_none, goes_onward, content_refused, content_absent, content_written, calls, rules)
+pub ruleset laws = (stays_none, goes_onward, content_refused, content_absent, content_written, calls, rules)

@@ -11,7 +11,7 @@ use native.Mathlib.Omega.{arith}
 use native.Mathlib.Nat.{min-le_left, min-le_right}
 use Rattle.refusal.specs.declared.Refusal.{Refusal}
 use Rattle.refusal.specs.Outcome.{Outcome, answer, refused, ◌>>=◌}
-use Rattle.refusal.proofs.Laws.{said, calls}
+use Rattle.refusal.proofs.Laws.{calls}
 use Rattle.word.specs.Bytes.{stretch, part}
 use Rattle.word.proofs.Laws.{part_whole}
 use Rattle.header.specs.declared.Header.{Header}

@@ -6,7 +6,7 @@ use mathlib.Core.Option.{Option}
 use mathlib.Core.List.{List}
 use borrow.Author.Rules.{rules}
 use Rattle.refusal.specs.Outcome.{Outcome, ◌>>=◌}
-use Rattle.refusal.proofs.Laws.{said, tests, calls}
+use Rattle.refusal.proofs.Laws.{tests, calls}
 use Rattle.frame.specs.declared.Frame.{Frame}
 use Rattle.header.specs.declared.Header.{Header}
 use Rattle.header.specs.Header.{up_to_end, frame_of}
@@ -20,10 +20,6 @@ use Rattle.directory_readers.specs.declared.Reached.{Reached}
 use Rattle.directory_readers.specs.declared.ReachedAnswer.{ReachedAnswer}
 use Rattle.directory_readers.specs.Answers.{reached_outcome}
 
--- a call's answer, by the arm that was taken
-pub on_reached : {B : Type 0} {x c : ReachedAnswer} {o : Outcome Reached} {y : Outcome B} (k : Reached → Outcome B) → reached_outcome x ≡ o → x ≡ c → y ≡ (reached_outcome c >>= k) → y ≡ (o >>= k)
-on_reached = said reached_outcome
-
 -- a directory that was read in the file up to the data section's end, s, against the file's counts, r
 module _ (f : List ℕ) (h : Header) (handles item : ℕ) {s : List ℕ} {r : Frame} (e : s ≡ up_to_end f h) (g : r ≡ frame_of h handles) where
   pub on_head : {B : Type 0} {x c : DirectoryHeadAnswer} {y : Outcome B} (k : DirectoryHead → Outcome B) → directory_head_outcome x ≡ directory_head s r item → x ≡ c → y ≡ (directory_head_outcome c >>= k) → y ≡ (directory_head (up_to_end f h) (frame_of h handles) item >>= k)
@@ -32,6 +28,6 @@ module _ (f : List ℕ) (h : Header) (handles item : ℕ) {s : List ℕ} {r : Fr
   pub entry_framed : (list k : ℕ) {y : Outcome DirectoryEntry} → y ≡ directory_entry s r item list k → y ≡ directory_entry (up_to_end f h) (frame_of h handles) item list k
   entry_framed list k q = q ∙ (λ i. directory_entry (e i) (g i) item list k)
 
-pub ruleset laws = (on_reached, header-laws, class-laws, calls, rules)
+pub ruleset laws = (header-laws, class-laws, calls, rules)
 
-pub ruleset framed = (on_head, entry_framed, calls, tests, rules)
+pub ruleset framed = (entry_framed, calls, tests, rules)

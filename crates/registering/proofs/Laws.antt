@@ -7,7 +7,7 @@ use Rattle.verdict.specs.declared.Verdict.{Verdict}
 use Rattle.verdict.specs.declared.Verdict as D
 use Rattle.verdict.specs.Answers.{verdict_outcome}
 use Rattle.file_report.specs.Input.{input_at}
-use Rattle.checking.specs.Status.{Tells, said, unsaid, Comes}
+use Rattle.checking.specs.Status.{Tells, unsaid, Comes}
 use Rattle.checking.proofs.Laws.{comes, laws as checking-laws}
 use Rattle.register_text.specs.Escapes.{Pieced}
 use Rattle.register_text.proofs.Laws.{piece_fits, piece_goes_on}

@@ -7,7 +7,7 @@ use mathlib.Core.Option.{Option}
 use mathlib.Core.List.{List}
 use borrow.Author.Rules.{rules}
 use Rattle.refusal.specs.Outcome.{Outcome, ◌>>=◌}
-use Rattle.refusal.proofs.Laws.{said, tests, calls}
+use Rattle.refusal.proofs.Laws.{tests, calls}
 use Rattle.frame.specs.declared.Frame.{Frame}
 use Rattle.header.specs.declared.Header.{Header}
 use Rattle.header.specs.Header.{up_to_end, frame_of}
@@ -21,15 +21,7 @@ use Rattle.annotation_directories.specs.Directories.{DirectoryEntry}
 use Rattle.directory_readers.specs.declared.Reached.{Reached}
 use Rattle.directory_readers.specs.declared.DirectoryAnswer.{DirectoryAnswer}
 use Rattle.directory_readers.specs.Answers.{directory_outcome}
-use Rattle.directory_readers.proofs.Laws.{on_reached}
 use Rattle.set_readers.specs.Sets.{annotation_count, annotation_place}
-
--- a call's answer, by the arm that was taken
-pub on_directory : {B : Type 0} {x c : DirectoryAnswer} {o : Outcome (Option DirectoryHead)} {y : Outcome B} (k : Option DirectoryHead → Outcome B) → directory_outcome x ≡ o → x ≡ c → y ≡ (directory_outcome c >>= k) → y ≡ (o >>= k)
-on_directory = said directory_outcome
-
-pub on_entry : {B : Type 0} {x c : DirectoryEntryAnswer} {o : Outcome DirectoryEntry} {y : Outcome B} (k : DirectoryEntry → Outcome B) → directory_entry_outcome x ≡ o → x ≡ c → y ≡ (directory_entry_outcome c >>= k) → y ≡ (o >>= k)
-on_entry = said directory_entry_outcome
 
 -- a set that was reached, by what the call said, p
 module _ (f : List ℕ) {p o : Outcome Reached} (e : p ≡ o) where
@@ -51,6 +43,6 @@ module _ (f : List ℕ) (h : Header) (handles item : ℕ) {s : List ℕ} {r : Fr
       → y ≡ (offset_number (up_to_end f h) (frame_of h handles) item absent four n >>= k)
   on_number n k q = said word_outcome k (number_framed n q)
 
-pub ruleset laws = (on_reached, on_directory, on_entry, count_reached, place_reached, calls, rules)
+pub ruleset laws = (count_reached, place_reached, calls, rules)
 
-pub ruleset framed = (count_framed, number_framed, on_number, calls, tests, rules)
+pub ruleset framed = (count_framed, number_framed, calls, tests, rules)

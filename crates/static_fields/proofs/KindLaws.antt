@@ -17,14 +17,13 @@ use Rattle.refusal.specs.Refusals.{too_many_values}
 use Rattle.refusal.specs.declared.Refusal.{Refusal}
 use Rattle.refusal.specs.Outcome.{Outcome, answer, refused, ◌>>=◌, given}
 use Rattle.refusal.specs.Rows.{Found, past, in_front, collect}
-use Rattle.refusal.proofs.Laws.{said, calls, tests, bind_answer, bind_refused, refused_by, passes, fails}
+use Rattle.refusal.proofs.Laws.{calls, tests, bind_answer, bind_refused, refused_by, passes, fails}
 use Rattle.refusal.proofs.Exact.{answers_equal, never}
 use Rattle.refusal.proofs.Rows.{past_answer, past_refused, bind_assoc, collect_exact}
 use Rattle.refusal.proofs.Kept.{part_answer, part_refused}
 use Rattle.refusal.proofs.Choose.{row_length, collect_length}
 use Rattle.leb128.specs.Leb.{uleb_at}
 use Rattle.leb128.proofs.Exactly.{uleb_exact}
-use Rattle.leb128.proofs.Laws.{on_leb}
 use Rattle.frame.specs.declared.Frame.{Frame}
 use Rattle.header.specs.declared.Header.{Header}
 use Rattle.header.specs.Header.{up_to_end, plain_frame, frame_of}
@@ -37,7 +36,6 @@ use Rattle.class_members.specs.Answers.{found_outcome}
 use Rattle.class_members.specs.Members.{member_at, Run, step_at, begin, members_at}
 use Rattle.class_data.specs.declared.Counts.{Counts}
 use Rattle.class_data.specs.Data.{Two, two_at, fields_judge, methods_judge, ClassData, class_data_at, counts, extent_at, counts_at}
-use Rattle.class_data.proofs.Laws.{on_data, on_counts}
 use Rattle.value_heads.specs.declared.Walk.{Walk}
 use Rattle.value_heads.specs.declared.HeadByteAnswer.{HeadByteAnswer}
 use Rattle.value_heads.specs.declared.HeadByteAnswer.TheVariants as H
@@ -56,9 +54,8 @@ use Rattle.encoded_value.proofs.Exactly.{value_exact, array_exact}
 use Rattle.encoded_value.proofs.Cycle.{no_value, value_kind}
 use Rattle.decoded_value.specs.Shown.{Shown, shown}
 use Rattle.value_bodies.specs.Bodies.{array_count}
-use Rattle.table_readers.proofs.HeadLaws.{on_opened}
 use Rattle.value_readers.specs.Opening.{walk_in}
-use Rattle.value_readers.proofs.Laws.{walk_framed, on_count}
+use Rattle.value_readers.proofs.Laws.{walk_framed}
 use Rattle.static_fields.specs.declared.KindAnswer.{KindAnswer}
 use Rattle.static_fields.specs.declared.FitsAnswer.{FitsAnswer}
 use Rattle.static_fields.specs.declared.FitsNextAnswer.{FitsNextAnswer}
@@ -137,13 +134,6 @@ module _ (s : List ℕ) (w : Walk) (p : ℕ) {x : HeadByteAnswer} (e : head_byte
         let a = past_answer (value_at s w deepest_value p) (sym (ap step_outcome u) ∙ g) in
         let k = kind_of s w (array_at s w deepest_value) (annotation_at s w deepest_value) h (p + 1) (sym (value_kind s w deepest_value p e t) ∙ sym a.1.0) in
         sym (bind_answer _ (sym a.1.0) ∙ (λ i. answer (record { item = k i; next = a.1.1 i })))
-
--- ---- calls, by the arm that was taken
-pub on_kind : {B : Type 0} {x c : KindAnswer} {o : Outcome (Found ℕ ℕ)} {y : Outcome B} (k : Found ℕ ℕ → Outcome B) → kind_outcome x ≡ o → x ≡ c → y ≡ (kind_outcome c >>= k) → y ≡ (o >>= k)
-on_kind = said kind_outcome
-
-pub on_fits : {B : Type 0} {x c : FitsAnswer} {o : Outcome Bool} {y : Outcome B} (k : Bool → Outcome B) → fits_outcome x ≡ o → x ≡ c → y ≡ (fits_outcome c >>= k) → y ≡ (o >>= k)
-on_fits = said fits_outcome
 
 -- what was read in the file up to the data section's end, s, against the file's frame or walk
 pub fields_framed : (f : List ℕ) (h : Header) (at : ℕ) {s : List ℕ} {r : Frame} {y : Outcome (Found ℕ ℕ)} → s ≡ up_to_end f h → r ≡ plain_frame h → y ≡ fields_begin s r at → y ≡ fields_begin (up_to_end f h) (plain_frame h) at
@@ -470,7 +460,7 @@ module _ {f : List ℕ} {h : Header} {handles at values from first count : ℕ} 
             fits = w.fits;
           }
 
-pub ruleset begin_laws = (on_data, on_counts, on_count, on_leb, calls, tests, rules)
+pub ruleset begin_laws = (calls, tests, rules)
 
 pub ruleset from_laws = (fields_framed, values_walked, calls, tests, rules)
 
@@ -478,10 +468,10 @@ pub ruleset walk_laws = (walk_framed, rules)
 
 pub ruleset kind_laws = (kind_no_head, kind_no_value, kind_got, rules)
 
-pub ruleset fits_laws = (kind_walked, on_fits, calls, tests, rules)
+pub ruleset fits_laws = (kind_walked, calls, tests, rules)
 
 pub ruleset seeking = (seeking_first, seeking_small, seeking_stop, seeking_fail, seeking_found, seeking_next, seeking_done, rules)
 
 pub ruleset under_laws = (wrong_no_fields, wrong_no_values, wrong_many, wrong_again, rules)
 
-pub ruleset laws = (on_opened, class-laws, calls, tests, rules)
+pub ruleset laws = (class-laws, calls, tests, rules)

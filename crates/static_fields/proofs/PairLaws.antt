@@ -15,7 +15,7 @@ use Rattle.refusal.specs.declared.Refusal.{Refusal}
 use Rattle.refusal.specs.Outcome.{Outcome, answer, refused, ◌>>=◌, given, present}
 use Rattle.refusal.specs.Rows.{Found}
 use Rattle.refusal.specs.Exact.{At}
-use Rattle.refusal.proofs.Laws.{said, calls, tests, bind_answer, bind_refused, refused_by, passes, fails, present_there}
+use Rattle.refusal.proofs.Laws.{calls, tests, bind_answer, bind_refused, refused_by, passes, fails, present_there}
 use Rattle.refusal.proofs.Exact.{answers_equal}
 use Rattle.refusal.proofs.Kept.{part_answer, part_refused}
 use Rattle.refusal.proofs.Choose.{get_d_at}
@@ -44,7 +44,6 @@ use Rattle.value_bodies.specs.declared.PickedAnswer.{PickedAnswer}
 use Rattle.value_bodies.specs.declared.PickedAnswer.TheVariants as P
 use Rattle.value_bodies.specs.Answers.{count_outcome, picked_outcome}
 use Rattle.value_bodies.proofs.Picks.{pick_there, pick_none}
-use Rattle.table_readers.proofs.HeadLaws.{on_opened}
 use Rattle.value_readers.specs.Opening.{walk_in}
 use Rattle.value_readers.specs.Statics.{values_in, static_value_in}
 use Rattle.static_fields.specs.Pairing.{StaticField, with_value, default_of, paired, class_place, type_text, fields_in, stored_in, field_under, field_in}
@@ -200,4 +199,4 @@ pub ruleset some_laws = (some_no_data, some_past, some_no_values, some_many, som
 
 pub ruleset below_laws = (below_some, tests, rules)
 
-pub ruleset laws = (on_opened, class-laws, calls, tests, rules)
+pub ruleset laws = (class-laws, calls, tests, rules)

@@ -7,7 +7,7 @@ use borrow.Author.Rules.{rules}
 use native.Mathlib.Omega.{arith}
 use Rattle.refusal.specs.declared.Refusal.{Refusal}
 use Rattle.refusal.specs.Outcome.{Outcome, ◌>>=◌}
-use Rattle.refusal.proofs.Laws.{said, tests}
+use Rattle.refusal.proofs.Laws.{tests}
 use Rattle.word.specs.Bytes.{part}
 use Rattle.word.proofs.Laws.{part_whole}
 use Rattle.header.specs.declared.Header.{Header}
@@ -34,8 +34,5 @@ module _ (f : List ℕ) {x : HeaderAnswer} (e : header_outcome x ≡ header_at f
       let read = sym (ap header_outcome t) ∙ e in
       let long = ((header_exact f).sound h (sym read)).long in
       q ∙ part_whole f 12 20 (omega arith) ∙ ap (signed_by f) read
-
-pub on_opened : {B : Type 0} {x c : OpenedAnswer} {o : Outcome Opened} {y : Outcome B} (k : Opened → Outcome B) → opened_outcome x ≡ o → x ≡ c → y ≡ (opened_outcome c >>= k) → y ≡ (o >>= k)
-on_opened = said opened_outcome
 
 pub ruleset laws = (unsigned, signed, header-laws, map-laws, tests, rules)

@@ -6,11 +6,10 @@ use mathlib.Core.List.{List}
 use borrow.Author.Rules.{rules}
 use native.Mathlib.Omega.{arith}
 use Rattle.refusal.specs.Outcome.{Outcome, ◌>>=◌}
-use Rattle.refusal.proofs.Laws.{said, tests, calls}
+use Rattle.refusal.proofs.Laws.{tests, calls}
 use Rattle.frame.specs.declared.Frame.{Frame}
 use Rattle.header.specs.declared.Header.{Header}
 use Rattle.header.specs.Header.{up_to_end, frame_of}
-use Rattle.table_readers.proofs.HeadLaws.{on_opened}
 use Rattle.class_ids.proofs.Laws.{laws as class-laws}
 use Rattle.value_heads.specs.declared.Walk.{Walk}
 use Rattle.value_heads.specs.Kinds.{walk_of}
@@ -19,7 +18,6 @@ use Rattle.encoded_value.specs.Readings.{past_array, past_annotation}
 use Rattle.encoded_value.specs.Answers.{step_outcome}
 use Rattle.encoded_value.specs.declared.StepAnswer.{StepAnswer}
 use Rattle.encoded_value.specs.declared.StepAnswer.TheVariants.{Next}
-use Rattle.encoded_value.proofs.Leaves.{on_step}
 use Rattle.encoded_value.proofs.Bounds.{array_ends, annotation_ends}
 use Rattle.decoded_value.specs.Shown.{Shown}
 use Rattle.value_bodies.specs.Bodies.{Noted, ShownElement, array_count, array_value, annotation_element}
@@ -65,16 +63,10 @@ array_room s w p e t = let h = array_ends s w deepest p e t in let z = h.after_p
 pub annotation_room : (s : List ℕ) (w : Walk) (p : ℕ) {x : StepAnswer} {q : ℕ} → step_outcome x ≡ past_annotation s w deepest p → x ≡ Next q → p ≤ q
 annotation_room s w p e t = let h = annotation_ends s w deepest p e t in let z = h.after_place in omega arith
 
-pub on_count : {B : Type 0} {x c : BodySizeAnswer} {o : Outcome ℕ} {y : Outcome B} (k : ℕ → Outcome B) → count_outcome x ≡ o → x ≡ c → y ≡ (count_outcome c >>= k) → y ≡ (o >>= k)
-on_count = said count_outcome
-
-pub on_noted : {B : Type 0} {x c : AnnotationHeadAnswer} {o : Outcome Noted} {y : Outcome B} (k : Noted → Outcome B) → annotation_head_outcome x ≡ o → x ≡ c → y ≡ (annotation_head_outcome c >>= k) → y ≡ (o >>= k)
-on_noted = said annotation_head_outcome
-
-pub ruleset body_laws = (array_room, annotation_room, on_count, on_noted, on_step, calls, rules)
+pub ruleset body_laws = (array_room, annotation_room, calls, rules)
 
 pub ruleset walked = (walk_framed, count_walked, value_walked, calls, tests, rules)
 
-pub ruleset placed = (on_opened, array_walked, value_walked, body_walked, element_walked, summary_framed, element_framed, calls, rules)
+pub ruleset placed = (array_walked, value_walked, body_walked, element_walked, summary_framed, element_framed, calls, rules)
 
-pub ruleset laws = (on_opened, class-laws, calls, tests, rules)
+pub ruleset laws = (class-laws, calls, tests, rules)

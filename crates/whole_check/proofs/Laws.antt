@@ -19,7 +19,6 @@ use Rattle.map_list.specs.Map.{Map, map_at, kept_at}
 use Rattle.map_list.proofs.Laws.{laws as map-laws}
 use Rattle.ids.specs.Records.{types_at}
 use Rattle.string_ids.specs.Strings.{strings_at, strings_checked}
-use Rattle.verdict.proofs.Once.{on_verdict}
 use Rattle.class_walk.specs.Classes as C
 use Rattle.whole_check.specs.File.{proto_below, field_at, method_at, handle_in, tables_at, file_at, check_at, verdict_at}
 use Rattle.whole_check.specs.Passes.{types_pass, members_pass, handles_pass, protos_pass, classes_pass, names_pass, records_pass, items_pass, tables_pass, pass_in, verdict_in}
@@ -99,4 +98,4 @@ checked_verdict f = ap (λ (o : Outcome Unit). (o >>= λ (u : Unit). header_at f
 pub check_by : (f : List ℕ) {y : Outcome Unit} → y ≡ (verdict_at f >>= accepted) → y ≡ check_at f
 check_by f e = e ∙ checked_verdict f
 
-pub ruleset laws = (types_framed, members_framed, handles_framed, check_by, verdict_by, verdict_in_by, on_verdict, header-laws, map-laws, kept, calls, rules)
+pub ruleset laws = (types_framed, members_framed, handles_framed, check_by, verdict_by, verdict_in_by, header-laws, map-laws, kept, calls, rules)
