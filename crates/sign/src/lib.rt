@@ -7,20 +7,12 @@ ghost use Rattle.sign.specs.Magnitude.{magnitude};
 pub fn magnitude_of(size: i32) -> u32
     ensures { result ≡ magnitude size }
 {
-    if size < 0 {
-        let low = -1 - size;
-        return low as u32 + 1;
-    }
-    size as u32
+    size.unsigned_abs()
 }
 
 // The same of a number of 64 bits.
 pub fn magnitude_of_long(number: i64) -> u64
     ensures { result ≡ magnitude number }
 {
-    if number < 0 {
-        let low = -1 - number;
-        return low as u64 + 1;
-    }
-    number as u64
+    number.unsigned_abs()
 }

@@ -1,8 +1,6 @@
-use Rattle.sign.proofs.Laws.{laws}
+use Rattle.std.proofs.Common.{w32}
+use Rattle.sign.proofs.Laws.{held}
 use Rattle.sign.proofs.magnitude_of.Goals as goal
 
-pub returns-then-size-lt0 : goal.returns-then-size-lt0
-returns-then-size-lt0 c = search laws
-
 pub returns : goal.returns
-returns c = search laws
+returns c = held w32 c.args.size c.ranges.size c.unsigned_abs.ensures.value

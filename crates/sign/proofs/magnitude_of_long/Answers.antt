@@ -1,8 +1,6 @@
-use Rattle.sign.proofs.LongLaws.{laws}
+use Rattle.std.proofs.Common.{w64}
+use Rattle.sign.proofs.Laws.{held}
 use Rattle.sign.proofs.magnitude_of_long.Goals as goal
 
-pub returns-then-number-lt0 : goal.returns-then-number-lt0
-returns-then-number-lt0 c = search laws
-
 pub returns : goal.returns
-returns c = search laws
+returns c = held w64 c.args.number c.ranges.number c.unsigned_abs.ensures.value
