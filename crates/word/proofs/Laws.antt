@@ -11,7 +11,8 @@ use lib.Dec.{leb}
 use borrow.Author.Tests.{le-leb, lt-leb, leb-true, leb-false}
 use native.Mathlib.Numerals.{add-one}
 use native.Mathlib.Omega.{arith}
-use mir.Syntax.{w8, w64}
+use mir.Syntax.{w8, w16, w32, w64}
+use Rattle.std.specs.Int.{from_le_bytes, from_be_bytes}
 use mir.Val.{Fits}
 use Rattle.word.specs.Bytes.{stretch, part, Stands}
 use Rattle.word.specs.Words.{u16_of, u32_of, u16_at, u32_at}
@@ -76,6 +77,19 @@ pub room_fits : (len at n : ℕ) {t : Bool} → t ≡ leb (at + n) len → t ≡
 room_fits len at n e m f = let h = room_there len at n e m in omega arith
 
 -- ---- words
+-- the library's words, by the weights of their bytes
+pub little_two : (a b : ℕ) → from_le_bytes w16 (a ∷ b ∷ []) ≡ a + 256 * b
+little_two a b = omega arith
+
+pub big_two : (a b : ℕ) → from_be_bytes w16 (a ∷ b ∷ []) ≡ 256 * a + b
+big_two a b = omega arith
+
+pub little_four : (a b c d : ℕ) → from_le_bytes w32 (a ∷ b ∷ c ∷ d ∷ []) ≡ a + 256 * b + 65536 * c + 16777216 * d
+little_four a b c d = omega arith
+
+pub big_four : (a b c d : ℕ) → from_be_bytes w32 (a ∷ b ∷ c ∷ d ∷ []) ≡ 16777216 * a + 65536 * b + 256 * c + d
+big_four a b c d = omega arith
+
 -- the two orders are each other's reverse
 pub u16_reverse : (a b : ℕ) → u16_of Big a b ≡ u16_of Little b a
 unfolding u16_of
@@ -99,28 +113,22 @@ u32_small Big a b c d p q r t = omega arith
 -- ---- what the functions' proofs cite
 -- a word by the order that was matched
 module _ (o : Endian) (a b : ℕ) where
-  u16_little : o ≡ Little → a + 256 * b ≡ u16_of o a b
+  pub u16_little : {r : ℕ} → o ≡ Little → r ≡ from_le_bytes w16 (a ∷ b ∷ []) → r ≡ u16_of o a b
   unfolding u16_of
-  u16_little e = rw e
+  u16_little e h = h ∙ little_two a b ∙ rw e refl
 
-  pub u16_summed : {r : ℕ} → o ≡ Little → r ≡ a + 256 * b → r ≡ u16_of o a b
-  u16_summed e h = h ∙ u16_little e
-
-  pub u16_big : o ≡ Big → 256 * a + b ≡ u16_of o a b
+  pub u16_big : {r : ℕ} → o ≡ Big → r ≡ from_be_bytes w16 (a ∷ b ∷ []) → r ≡ u16_of o a b
   unfolding u16_of
-  u16_big e = rw e
+  u16_big e h = h ∙ big_two a b ∙ rw e refl
 
   module _ (c d : ℕ) where
-    u32_little : o ≡ Little → a + 256 * b + 65536 * c + 16777216 * d ≡ u32_of o a b c d
+    pub u32_little : {r : ℕ} → o ≡ Little → r ≡ from_le_bytes w32 (a ∷ b ∷ c ∷ d ∷ []) → r ≡ u32_of o a b c d
     unfolding u32_of
-    u32_little e = rw e
+    u32_little e h = h ∙ little_four a b c d ∙ rw e refl
 
-    pub u32_summed : {r : ℕ} → o ≡ Little → r ≡ a + 256 * b + 65536 * c + 16777216 * d → r ≡ u32_of o a b c d
-    u32_summed e h = h ∙ u32_little e
-
-    pub u32_big : o ≡ Big → 16777216 * a + 65536 * b + 256 * c + d ≡ u32_of o a b c d
+    pub u32_big : {r : ℕ} → o ≡ Big → r ≡ from_be_bytes w32 (a ∷ b ∷ c ∷ d ∷ []) → r ≡ u32_of o a b c d
     unfolding u32_of
-    u32_big e = rw e
+    u32_big e h = h ∙ big_four a b c d ∙ rw e refl
 
 -- a word from the bytes that were read
 pub u16_by : (o : Endian) (s : List ℕ) (at : ℕ) {b r : ℕ} → b ≡ get_or s (at + 1) 0 → r ≡ u16_of o (get_or s at 0) b → r ≡ u16_at o s at
@@ -133,14 +141,14 @@ unfolding u32_at
 u32_by o s at e f g h = rw (← e, ← f, ← g) h
 
 -- a word that lies inside, the low byte first
-pub u16_inside : (o : Endian) (s : List ℕ) (at : ℕ) {r : ℕ} → o ≡ Little → r ≡ get_or s at 0 + 256 * get_or s (at + 1) 0 → r ≡ u16_at o s at
+pub u16_inside : (o : Endian) (s : List ℕ) (at : ℕ) {r : ℕ} → o ≡ Little → r ≡ from_le_bytes w16 (get_or s at 0 ∷ get_or s (at + 1) 0 ∷ []) → r ≡ u16_at o s at
 unfolding u16_at
-u16_inside o s at e h = u16_summed o (get_or s at 0) (get_or s (at + 1) 0) e h
+u16_inside o s at e h = u16_little o (get_or s at 0) (get_or s (at + 1) 0) e h
 
 pub u32_inside : (o : Endian) (s : List ℕ) (at : ℕ) {r : ℕ} → o ≡ Little
-    → r ≡ get_or s at 0 + 256 * get_or s (at + 1) 0 + 65536 * get_or s (at + 2) 0 + 16777216 * get_or s (at + 3) 0 → r ≡ u32_at o s at
+    → r ≡ from_le_bytes w32 (get_or s at 0 ∷ get_or s (at + 1) 0 ∷ get_or s (at + 2) 0 ∷ get_or s (at + 3) 0 ∷ []) → r ≡ u32_at o s at
 unfolding u32_at
-u32_inside o s at e h = u32_summed o (get_or s at 0) (get_or s (at + 1) 0) (get_or s (at + 2) 0) (get_or s (at + 3) 0) e h
+u32_inside o s at e h = u32_little o (get_or s at 0) (get_or s (at + 1) 0) (get_or s (at + 2) 0) (get_or s (at + 3) 0) e h
 
 pub u16_past : (o : Endian) (s : List ℕ) (at : ℕ) → length s ≤ at → 0 ≡ u16_at o s at
 unfolding u16_at u16_of
@@ -152,4 +160,4 @@ unfolding u32_at u32_of
 u32_past Little s at h = omega (arith, byte_past s at h, byte_past s (at + 1) (omega arith), byte_past s (at + 2) (omega arith), byte_past s (at + 3) (omega arith))
 u32_past Big s at h = omega (arith, byte_past s at h, byte_past s (at + 1) (omega arith), byte_past s (at + 2) (omega arith), byte_past s (at + 3) (omega arith))
 
-pub ruleset laws = (byte_past, room_none, room_left, part_none, part_short, part_there, u16_summed, u16_big, u32_summed, u32_big, u16_by, u32_by, u16_inside, u32_inside, u16_past, u32_past, rules)
+pub ruleset laws = (byte_past, room_none, room_left, part_none, part_short, part_there, u16_little, u16_big, u32_little, u32_big, u16_by, u32_by, u16_inside, u32_inside, u16_past, u32_past, rules)

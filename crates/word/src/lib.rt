@@ -46,27 +46,13 @@ pub fn bytes_at(slice: &[u8], start: usize, length: usize) -> &[u8]
     &slice[start..end]
 }
 
-// Two bytes as one number, the low one first.
-fn u16_low_first(a: u8, b: u8) -> u16
-    ensures { result ≡ a + 256 * b }
-{
-    a as u16 + 256 * b as u16
-}
-
-// Four bytes as one number, the lowest first.
-fn u32_low_first(a: u8, b: u8, c: u8, d: u8) -> u32
-    ensures { result ≡ a + 256 * b + 65536 * c + 16777216 * d }
-{
-    a as u32 + 256 * b as u32 + 65536 * c as u32 + 16777216 * d as u32
-}
-
 // Two bytes as one number.
 fn u16_of(order: Endian, a: u8, b: u8) -> u16
     ensures { result ≡ u16_of order a b }
 {
     match order {
-        Endian::Little => u16_low_first(a, b),
-        Endian::Big => 256 * a as u16 + b as u16,
+        Endian::Little => u16::from_le_bytes([a, b]),
+        Endian::Big => u16::from_be_bytes([a, b]),
     }
 }
 
@@ -75,8 +61,8 @@ fn u32_of(order: Endian, a: u8, b: u8, c: u8, d: u8) -> u32
     ensures { result ≡ u32_of order a b c d }
 {
     match order {
-        Endian::Little => u32_low_first(a, b, c, d),
-        Endian::Big => 16777216 * a as u32 + 65536 * b as u32 + 256 * c as u32 + d as u32,
+        Endian::Little => u32::from_le_bytes([a, b, c, d]),
+        Endian::Big => u32::from_be_bytes([a, b, c, d]),
     }
 }
 
@@ -116,7 +102,7 @@ pub fn u16_at(slice: &[u8], at: usize, order: Endian) -> u16
         Endian::Little => {
             if 2 <= slice.len() {
                 if at <= slice.len() - 2 {
-                    return u16_low_first(slice[at], slice[at + 1]);
+                    return u16::from_le_bytes([slice[at], slice[at + 1]]);
                 }
             }
             u16_by_bytes(slice, at, order)
@@ -133,7 +119,12 @@ pub fn u32_at(slice: &[u8], at: usize, order: Endian) -> u32
         Endian::Little => {
             if 4 <= slice.len() {
                 if at <= slice.len() - 4 {
-                    return u32_low_first(slice[at], slice[at + 1], slice[at + 2], slice[at + 3]);
+                    return u32::from_le_bytes([
+                        slice[at],
+                        slice[at + 1],
+                        slice[at + 2],
+                        slice[at + 3],
+                    ]);
                 }
             }
             u32_by_bytes(slice, at, order)
