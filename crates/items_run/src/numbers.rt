@@ -2,7 +2,7 @@
 use decoded_value::Value;
 use leb128::PlusOneAnswer;
 use refusal::{Read, Refusal};
-use text_order::Order;
+use std::cmp::Ordering;
 
 // An answer of four words, and a refusal.
 pub(crate) fn four(a: u64, b: u64, c: u64, d: u64) -> [u64; 20] {
@@ -47,9 +47,9 @@ fn plus_one(s: &[u8], at: usize, item: usize) -> [u64; 20] {
 
 fn order(a: &[u8], b: &[u8]) -> [u64; 20] {
     match text_order::compare(a, b) {
-        Order::Less => four(0, 0, 0, 0),
-        Order::Equal => four(1, 0, 0, 0),
-        Order::Greater => four(2, 0, 0, 0),
+        Ordering::Less => four(0, 0, 0, 0),
+        Ordering::Equal => four(1, 0, 0, 0),
+        Ordering::Greater => four(2, 0, 0, 0),
     }
 }
 

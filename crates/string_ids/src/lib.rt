@@ -14,7 +14,7 @@ ghost use Rattle.string_ids.specs.Answers.{item_outcome, last_bytes, lookup_outc
 use header::Header;
 use refusal::Refusal;
 use text::TextPlace;
-use text_order::Order;
+use std::cmp::Ordering;
 
 // Where the last text's bytes lie, if there is one.
 #[derive(Clone, Copy)]
@@ -64,9 +64,9 @@ fn rises(s: &[u8], last: Option<Last>, start: usize, length: usize) -> bool
                 length: n,
             },
         ) => match text_order::compare(word::bytes_at(s, p, n), word::bytes_at(s, start, length)) {
-            Order::Less => true,
-            Order::Equal => false,
-            Order::Greater => false,
+            Ordering::Less => true,
+            Ordering::Equal => false,
+            Ordering::Greater => false,
         },
     }
 }
@@ -78,9 +78,9 @@ fn found_with(found: Option<u32>, bytes: &[u8], text: &[u8], k: u32) -> Option<u
     match found {
         Some(j) => Some(j),
         None => match text_order::compare(bytes, text) {
-            Order::Less => None,
-            Order::Equal => Some(k),
-            Order::Greater => None,
+            Ordering::Less => None,
+            Ordering::Equal => Some(k),
+            Ordering::Greater => None,
         },
     }
 }

@@ -14,8 +14,8 @@ use mir.Val.{Fits}
 use Rattle.refusal.specs.Refusals.{malformed_text, runs_past}
 use Rattle.refusal.specs.declared.Refusal.{Refusal}
 use Rattle.refusal.specs.Outcome.{Outcome, answer, refused, ◌>>=◌, given}
-use Rattle.refusal.specs.Rows.{Found, Next, more, ends}
-use Rattle.refusal.proofs.Laws.{said, tests, calls, bind_answer, bind_refused, refused_by, passes, fails, picks, leaves}
+use Rattle.refusal.specs.Rows.{Found, Next, more}
+use Rattle.refusal.proofs.Laws.{handed_on, tests, calls, bind_answer, bind_refused, refused_by, passes, fails, picks, leaves}
 use Rattle.refusal.proofs.Exact.{answer_exact, bind_exact}
 use Rattle.refusal.proofs.Rows.{bind_assoc}
 use Rattle.refusal.proofs.Loops.{Ending, ending_first, ending_next, ending_stop, ending_full, ending_done}
@@ -23,16 +23,9 @@ use Rattle.word.specs.Bytes.{stretch, part}
 use Rattle.word.proofs.Laws.{length_stretch, stands_part}
 use Rattle.leb128.specs.Leb.{uleb_at}
 use Rattle.leb128.proofs.Exactly.{uleb_exact}
-use Rattle.leb128.proofs.Laws.{on_leb, uleb_span}
+use Rattle.leb128.proofs.Laws.{uleb_span}
 use Rattle.text.specs.Text.{wide_at, form_at, units_at, Text, string_at, Extent, extent, extent_at, counted, count_at}
 use Rattle.text.specs.Singles.{Singles, none_yet, one_more, FewSingles}
-use Rattle.text.specs.Answers.{wide_outcome, count_outcome, text_outcome}
-use Rattle.text.specs.declared.WideAnswer.{WideAnswer}
-use Rattle.text.specs.declared.WideAnswer.TheVariants as W
-use Rattle.text.specs.declared.UnitCountAnswer.{UnitCountAnswer}
-use Rattle.text.specs.declared.UnitCountAnswer.TheVariants as C
-use Rattle.text.specs.declared.TextAnswer.{TextAnswer}
-use Rattle.text.specs.declared.TextAnswer.TheVariants as T
 use Rattle.text.proofs.Shapes.{shape, shape_some}
 use Rattle.text.proofs.Exactly.{form_exact, units_exact, string_exact}
 
@@ -93,14 +86,14 @@ module _ {s : List ℕ} {item start p count : ℕ} (h : Head s item start p coun
   unfolding form_at
   wide i q e = passes (runs_past item) (lt-ltb p (length s) i) (leaves _ (le-ltb (get_or s p 0) 0x80 q) e)
 
-  pub head_wide : {x : WideAnswer} {u n : ℕ} → p < length s → 0x80 ≤ get_or s p 0 → wide_outcome x ≡ wide_at s item p → x ≡ W.Got u n → Head s item start n (count + 1)
-  head_wide i q e t = next i (wide i q (sym (ap wide_outcome t) ∙ e))
+  pub head_wide : {u n : ℕ} → p < length s → 0x80 ≤ get_or s p 0 → answer (more u n) ≡ wide_at s item p → Head s item start n (count + 1)
+  head_wide i q e = next i (wide i q e)
 
-  pub head_less : {x : WideAnswer} {u n : ℕ} → p < length s → 0x80 ≤ get_or s p 0 → wide_outcome x ≡ wide_at s item p → x ≡ W.Got u n → length s - n < length s - p
-  head_less i q e t = let m = form_moves s item p (wide i q (sym (ap wide_outcome t) ∙ e)) in omega arith
+  pub head_less : {u n : ℕ} → p < length s → 0x80 ≤ get_or s p 0 → answer (more u n) ≡ wide_at s item p → length s - n < length s - p
+  head_less i q e = let m = form_moves s item p (wide i q e) in omega arith
 
-  pub head_stop : {x : WideAnswer} {r : Refusal} → p < length s → 0x80 ≤ get_or s p 0 → wide_outcome x ≡ wide_at s item p → x ≡ W.Refused r → refused r ≡ count_at s item start
-  head_stop i q e t = stop i (wide i q (sym (ap wide_outcome t) ∙ e))
+  pub head_stop : {r : Refusal} → p < length s → 0x80 ≤ get_or s p 0 → refused r ≡ wide_at s item p → refused r ≡ count_at s item start
+  head_stop i q e = stop i (wide i q e)
 
   pub head_done : p < length s → get_or s p 0 < 0x80 → get_or s p 0 ≤ 0 → answer (record { item = count; next = p }) ≡ count_at s item start
   unfolding count_at form_at
@@ -125,6 +118,9 @@ module _ {s : List ℕ} {p : ℕ} where
   pub singles_more : {n : ℕ} → 8 ≤ length s - p → n < 8 → FewSingles s p n → get_or s (p + n) 0 < 0x80 → 0 < get_or s (p + n) 0 → FewSingles s p (n + 1)
   singles_more i l h low high = record { few = omega arith; inside = omega arith; ahead = λ m. omega arith; singles = one_more h.singles high low }
 
+  pub singles_all : {n : ℕ} → 8 ≤ n → FewSingles s p n → FewSingles s p 8
+  singles_all {n} l h = let z = h.few in let eight : n ≡ 8 = omega arith in subst (FewSingles s p) eight h
+
   -- what the loop asks of them
   pub few_inside : {n : ℕ} → FewSingles s p n → n < 8 → p + n < length s
   few_inside h l = h.ahead l
@@ -141,12 +137,12 @@ pub head_few : {s : List ℕ} {item start p count n : ℕ} → Head s item start
 head_few h r = past_singles h r.singles r.inside
 
 -- the form behind them
-module _ {s : List ℕ} {item start p count n : ℕ} (h : Head s item start p count) (r : FewSingles s p n) (l : n < 8) {x : WideAnswer} (q : 0x80 ≤ get_or s (p + n) 0) (e : wide_outcome x ≡ wide_at s item (p + n)) where
-  pub few_stop : {z : Refusal} → x ≡ W.Refused z → refused z ≡ count_at s item start
-  few_stop t = head_stop (head_few h r) (r.ahead l) q e t
+module _ {s : List ℕ} {item start p count n : ℕ} (h : Head s item start p count) (r : FewSingles s p n) (l : n < 8) (q : 0x80 ≤ get_or s (p + n) 0) where
+  pub few_stop : {z : Refusal} → refused z ≡ wide_at s item (p + n) → refused z ≡ count_at s item start
+  few_stop e = head_stop (head_few h r) (r.ahead l) q e
 
-  pub few_less : {u next : ℕ} → x ≡ W.Got u next → length s - next < length s - p
-  few_less t = let z = head_less (head_few h r) (r.ahead l) q e t in omega arith
+  pub few_less : {u next : ℕ} → answer (more u next) ≡ wide_at s item (p + n) → length s - next < length s - p
+  few_less e = let z = head_less (head_few h r) (r.ahead l) q e in omega arith
 
 -- ---- the stages of `string_at`
 unfoldable pub staged_at : List ℕ → ℕ → Outcome Extent
@@ -184,15 +180,11 @@ module _ (s : List ℕ) (item : ℕ) where
   by_stages e =
       e ∙ sym (bind_assoc (uleb_at s item item) (λ (n : Found ℕ ℕ). units_at s item n.next >>= text_with n) extent ∙ (λ i. uleb_at s item item >>= λ (n : Found ℕ ℕ). units_with n i))
 
-pub on_count : {B : Type 0} {x c : UnitCountAnswer} {o : Outcome (Found ℕ ℕ)} {y : Outcome B} (k : Found ℕ ℕ → Outcome B)
-    → count_outcome x ≡ o → x ≡ c → y ≡ (count_outcome c >>= k) → y ≡ (o >>= k)
-on_count = said count_outcome
-
-pub count_after : (s : List ℕ) (item p : ℕ) {x : UnitCountAnswer} {k z : ℕ} → count_outcome x ≡ count_at s item p → x ≡ C.Got k z → p ≤ z
+pub count_after : (s : List ℕ) (item p : ℕ) {k z : ℕ} → answer (record { item = k; next = z }) ≡ count_at s item p → p ≤ z
 unfolding count_at
-count_after s item p {x} {k} {z} e t =
+count_after s item p {k} {z} e =
     let rule = bind_exact _ (λ (u : Found (List ℕ) ℕ) (c : Found ℕ ℕ). record { item = length u.item; next = u.next } ≡ c) (units_exact s item p) (λ u. answer_exact _) in
-    let found = rule.sound (record { item = k; next = z }) (sym (sym (ap count_outcome t) ∙ e)) in
+    let found = rule.sound (record { item = k; next = z }) (sym e) in
     let last = ap (λ (c : Found ℕ ℕ). c.next) found.1.1 in
     let e = found.1.0.stands.ends in
     omega arith
@@ -208,11 +200,11 @@ pub record Lies (s : List ℕ) (item start size units : ℕ) : Type 0 where
   pub after_item : item < start
   pub inside : start + size < length s
 
-pub text_lies : (s : List ℕ) (item : ℕ) {x : TextAnswer} {p n u : ℕ} → text_outcome x ≡ extent_at s item → x ≡ T.Got p n u → Lies s item p n u
+pub text_lies : (s : List ℕ) (item : ℕ) {p n u : ℕ} → answer (record { start = p; length = n; units = u }) ≡ extent_at s item → Lies s item p n u
 unfolding extent_at extent
-text_lies s item {x} {p} {n} {u} e t =
+text_lies s item {p} {n} {u} e =
     let rule = bind_exact _ (λ (t : Text) (e : Extent). record { start = t.start; length = length t.bytes; units = length t.units } ≡ e) (string_exact s item) (λ t. answer_exact _) in
-    let found = rule.sound (record { start = p; length = n; units = u }) (sym (sym (ap text_outcome t) ∙ e)) in
+    let found = rule.sound (record { start = p; length = n; units = u }) (sym e) in
     let string = found.1.0 in
     let start = ap (λ (e : Extent). e.start) found.1.1 in
     let size = ap (λ (e : Extent). e.length) found.1.1 in
@@ -230,19 +222,11 @@ text_lies s item {x} {p} {n} {u} e t =
       inside = omega arith;
     }
 
--- a call's answer, by the arm that was taken
-pub on_text : {B : Type 0} {x c : TextAnswer} {o : Outcome Extent} {y : Outcome B} (k : Extent → Outcome B)
-    → text_outcome x ≡ o → x ≡ c → y ≡ (text_outcome c >>= k) → y ≡ (o >>= k)
-on_text = said text_outcome
-
 -- what this crate's functions are searched with
 pub ruleset form_laws = (either_first, either_second, neither, tests, rules)
 
-pub ruleset singles_laws = (singles_none, singles_more, rules)
+pub ruleset singles_laws = (singles_none, singles_more, singles_all, rules)
 
-pub ruleset count_laws = (head_few, few_inside, few_stop, few_less, head_first, head_one, head_wide, head_done, head_end, rules)
+pub ruleset count_laws = (handed_on, head_few, few_inside, few_stop, few_less, head_first, head_one, head_wide, head_done, head_end, rules)
 
-pub ruleset string_laws = (by_stages, count_after, on_leb, on_count, calls, tests, rules)
-
--- what a caller's functions are
-pub ruleset laws = (on_text)
+pub ruleset string_laws = (by_stages, count_after, calls, tests, rules)

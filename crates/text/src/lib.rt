@@ -104,21 +104,15 @@ fn singles_at(s: &[u8], p: usize) -> usize
     if s.len() - p < 8 {
         return 0;
     }
-    let mut n: usize = 0;
-    while n < 8 {
-        if s[p + n] < 0x80 {
-            if 0 < s[p + n] {
-                n += 1;
-                continue;
-            }
+    for n in 0..8usize {
+        if s[p + n] == 0 || 0x80 <= s[p + n] {
             return n;
         }
-        return n;
     }
-    n
+    8
 }
 
-// The units from `start` up to the zero byte, counted: forms of one byte by eight, and then the form behind them.
+// The units from `start` up to the zero byte, counted: forms of one byte by eight, and then the form behind them. A `while`, since a turn moves on by more than one.
 fn count_at(s: &[u8], item: usize, start: usize) -> Result<UnitCount, Refusal>
     ensures { count_outcome result ≡ count_at s.now item start }
 {

@@ -13,8 +13,8 @@ use Rattle.text.specs.Units.{form, encode}
 use Rattle.text.specs.Text.{Text}
 use Rattle.text.specs.Rules.{Units, StringRule}
 use Rattle.text_order.specs.Order.{compared, key, keys, by_key, is_equal}
-use Rattle.text_order.specs.declared.Order.{Order}
-use Rattle.text_order.specs.declared.Order.TheVariants.{Less, Equal, Greater}
+use Rattle.std.specs.declared.cmp.Ordering.{Ordering}
+use Rattle.std.specs.declared.cmp.Ordering.TheVariants.{Less, Equal, Greater}
 use Rattle.text.proofs.Shapes.{Two, Three, Shape, in_one, in_two, in_three, shape}
 use Rattle.text_order.proofs.Comparing.{key_zero, key_other, key_once, same_first}
 use Rattle.text.proofs.Exactly.{units_first, units_rest, string_exact}
@@ -23,7 +23,7 @@ use Rattle.word.specs.Bytes.{part}
 use Rattle.text_order.proofs.Ordered.{same_decides}
 
 -- ---- the two sides changed
-abbrev turned : Order → Order
+abbrev turned : Ordering → Ordering
 turned Less = Greater
 turned Equal = Equal
 turned Greater = Less

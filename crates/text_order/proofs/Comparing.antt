@@ -1,6 +1,6 @@
 -- The loop of `compare`, which goes over the keys of two lists of bytes.
 -- Assumes nothing.
-use Prim.Native.Nat.{ℕ, ◌+◌, ◌<◌, ◌≤◌}
+use Prim.Native.Nat.{ℕ, ◌+◌, ◌<◌, ◌≤◌, min}
 use mathlib.Core.Path.{◌≡◌, refl, ap, sym, ◌∙◌}
 use mathlib.Core.Bool.{Bool, true, false, cond}
 use mathlib.Core.List.{List, [], ◌∷◌}
@@ -8,12 +8,12 @@ use lib.ListN.{length, get_or, drop, drop_of_length-le}
 use lib.Seq.{drop-cons}
 use lib.Dec.{ltb, eqb}
 use borrow.Author.Rules.{rules}
-use borrow.Author.Tests.{ltb-false, eqb-true, eqb-false, lt-ltb, le-ltb, eq-eqb, ne_eqb}
+use borrow.Author.Tests.{ltb-true, ltb-false, eqb-true, eqb-false, lt-ltb, le-ltb, eq-eqb, ne_eqb}
 use native.Mathlib.Numerals.{add-one}
 use native.Mathlib.Omega.{arith}
+use Rattle.std.proofs.Common.{nat_cmp}
 use Rattle.text_order.specs.Order.{compared, key, keys, by_key, earlier}
-use Rattle.text_order.specs.declared.Order.{Order}
-use Rattle.text_order.specs.declared.Order.TheVariants.{Less, Equal, Greater}
+use Rattle.std.specs.declared.cmp.Ordering.TheVariants.{Less, Equal, Greater}
 
 -- ---- keys
 pub key_zero : (b : ℕ) → b ≡ 0xc0 → 0 ≡ key b
@@ -78,23 +78,34 @@ module _ {a b : List ℕ} {i : ℕ} (h : Comparing a b i) where
   on : {x y : List ℕ} → drop i a ≡ x → drop i b ≡ y → by_key a b ≡ by_key x y
   on e f = h.same ∙ (λ i. by_key (e i) (f i))
 
-  pub comparing_longer : i < length a → length b ≤ i → Greater ≡ by_key a b
+  longer : i < length a → length b ≤ i → by_key a b ≡ Greater
   unfolding by_key keys compared
-  comparing_longer p q = sym (on (at_byte a p) (past_end b q))
+  longer p q = on (at_byte a p) (past_end b q)
 
-  pub comparing_shorter : length a ≤ i → i < length b → Less ≡ by_key a b
+  shorter : length a ≤ i → i < length b → by_key a b ≡ Less
   unfolding by_key keys compared
-  comparing_shorter p q = sym (on (past_end a p) (at_byte b q))
+  shorter p q = on (past_end a p) (at_byte b q)
 
-  pub comparing_equal : length a ≤ i → length b ≤ i → Equal ≡ by_key a b
+  equal : length a ≤ i → length b ≤ i → by_key a b ≡ Equal
   unfolding by_key keys compared
-  comparing_equal p q = sym (on (past_end a p) (past_end b q))
+  equal p q = on (past_end a p) (past_end b q)
 
-  pub comparing_next : i < length a → i < length b → get_or a i 0 ≡ get_or b i 0 → Comparing a b (i + 1)
-  comparing_next p q e = record { inside = omega arith; same = on (at_byte a p) (at_byte b q) ∙ same_first _ _ _ _ e }
+  -- a turn of it: x and y are the bytes that stand there
+  module _ {x y : ℕ} (p : i < length a) (q : i < length b) (left : x ≡ get_or a i 0) (right : y ≡ get_or b i 0) where
+    pub comparing_next : x ≡ y → Comparing a b (i + 1)
+    comparing_next e = record { inside = omega arith; same = on (at_byte a p) (at_byte b q) ∙ same_first _ _ _ _ (sym left ∙ e ∙ right) }
 
-  pub comparing_other : {o : Order} → i < length a → i < length b → (get_or a i 0 ≡ get_or b i 0 → ⊥) → o ≡ earlier (get_or a i 0) (get_or b i 0) → o ≡ by_key a b
-  comparing_other p q n e = e ∙ sym (on (at_byte a p) (at_byte b q) ∙ other_first _ _ _ _ n)
+    pub comparing_other : (x ≡ y → ⊥) → earlier x y ≡ by_key a b
+    comparing_other n = (λ i. earlier (left i) (right i)) ∙ sym (on (at_byte a p) (at_byte b q) ∙ other_first _ _ _ _ (λ e. n (left ∙ e ∙ sym right)))
+
+  -- one of them has ended: their lengths decide
+  pub comparing_over : i ≡ min (length a) (length b) → nat_cmp (length a) (length b) ≡ by_key a b
+  comparing_over e = go (ltb (length a) (length b)) refl (eqb (length a) (length b)) refl
+    where
+      go : (s : Bool) → ltb (length a) (length b) ≡ s → (t : Bool) → eqb (length a) (length b) ≡ t → cond s Less (cond t Equal Greater) ≡ by_key a b
+      go true p t q = let less = ltb-true (length a) (length b) p in sym (shorter (omega arith) (omega arith))
+      go false p true q = let same = eqb-true (length a) (length b) q in sym (equal (omega arith) (omega arith))
+      go false p false q = let more = ltb-false (length a) (length b) p in let other = eqb-false (length a) (length b) q in sym (longer (omega arith) (omega arith))
 
 -- what the functions of the order are searched with
-pub ruleset laws = (key_zero, key_other, earlier_less, earlier_greater, comparing_first, comparing_longer, comparing_shorter, comparing_equal, comparing_next, comparing_other, rules)
+pub ruleset laws = (key_zero, key_other, earlier_less, earlier_greater, comparing_first, rules)

@@ -10,8 +10,8 @@ use native.Mathlib.Omega.{arith}
 use Rattle.refusal.specs.Exact.{Decides, Strict}
 use Rattle.refusal.proofs.Exact.{decided_yes, decided_no}
 use Rattle.text_order.specs.Order.{Before, ends, lower, alike, compared, is_less, is_equal}
-use Rattle.text_order.specs.declared.Order.{Order}
-use Rattle.text_order.specs.declared.Order.TheVariants.{Less, Equal, Greater}
+use Rattle.std.specs.declared.cmp.Ordering.{Ordering}
+use Rattle.std.specs.declared.cmp.Ordering.TheVariants.{Less, Equal, Greater}
 
 -- what comes before another text is not that text
 apart : {x y : List ℕ} → Before x y → x ≡ y → ⊥
@@ -34,7 +34,7 @@ pub strict : Strict Before
 strict = record { never = λ {a} h. never a h; onward = onward }
 
 -- what the comparison's answer says
-abbrev Said : List ℕ → List ℕ → Order → Type 0
+abbrev Said : List ℕ → List ℕ → Ordering → Type 0
 Said x y Less = Before x y
 Said x y Equal = x ≡ y
 Said x y Greater = Before y x
@@ -46,7 +46,7 @@ said [] (b ∷ y) = ends
 said (a ∷ x) [] = ends
 said (a ∷ x) (b ∷ y) = first (said x y) (ltb a b) refl
   where
-    more : a ≡ b → (o : Order) → Said x y o → Said (a ∷ x) (b ∷ y) o
+    more : a ≡ b → (o : Ordering) → Said x y o → Said (a ∷ x) (b ∷ y) o
     more e Less h = subst (λ (c : ℕ). Before (a ∷ x) (c ∷ y)) e (alike h)
     more e Equal h = λ i. e i ∷ h i
     more e Greater h = subst (λ (c : ℕ). Before (c ∷ y) (a ∷ x)) e (alike h)
@@ -63,7 +63,7 @@ pub before_decides : (x y : List ℕ) → Decides (is_less (compared x y)) (Befo
 unfolding is_less
 before_decides x y = go (compared x y) (said x y)
   where
-    go : (o : Order) → Said x y o → Decides (is_less o) (Before x y)
+    go : (o : Ordering) → Said x y o → Decides (is_less o) (Before x y)
     go Less s = decided_yes s
     go Equal s = decided_no λ h. never y (subst (λ (w : List ℕ). Before w y) s h)
     go Greater s = decided_no λ h. never x (onward h s)
@@ -72,7 +72,7 @@ pub same_decides : (x y : List ℕ) → Decides (is_equal (compared x y)) (x ≡
 unfolding is_equal
 same_decides x y = go (compared x y) (said x y)
   where
-    go : (o : Order) → Said x y o → Decides (is_equal o) (x ≡ y)
+    go : (o : Ordering) → Said x y o → Decides (is_equal o) (x ≡ y)
     go Less s = decided_no λ e. never y (subst (λ (w : List ℕ). Before w y) e s)
     go Equal s = decided_yes s
     go Greater s = decided_no λ e. never y (subst (λ (w : List ℕ). Before y w) e s)

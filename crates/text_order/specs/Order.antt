@@ -1,7 +1,7 @@
 -- The order of texts: by the first 16-bit unit in which they differ, and a text that ends comes before one that goes on.
 use Rattle.std.specs.Prelude.{ℕ, ◌+◌, ◌<◌, Bool, true, false, cond, List, [], ◌∷◌, ltb, eqb}
-use Rattle.text_order.specs.declared.Order.{Order}
-use Rattle.text_order.specs.declared.Order.TheVariants.{Less, Equal, Greater}
+use Rattle.std.specs.declared.cmp.Ordering.{Ordering}
+use Rattle.std.specs.declared.cmp.Ordering.TheVariants.{Less, Equal, Greater}
 
 -- as a relation
 pub data Before : List ℕ → List ℕ → Type 0 where
@@ -10,7 +10,7 @@ pub data Before : List ℕ → List ℕ → Type 0 where
   alike : {a : ℕ} {x y : List ℕ} → Before x y → Before (a ∷ x) (a ∷ y)
 
 -- as an answer
-unfoldable pub compared : List ℕ → List ℕ → Order
+unfoldable pub compared : List ℕ → List ℕ → Ordering
 compared [] [] = Equal
 compared [] (b ∷ y) = Less
 compared (a ∷ x) [] = Greater
@@ -25,19 +25,19 @@ keys [] = []
 keys (b ∷ x) = key b ∷ keys x
 
 -- the order of bytes by their keys; of the bytes of two texts it is the order of their units (proofs/ByUnits)
-unfoldable pub by_key : List ℕ → List ℕ → Order
+unfoldable pub by_key : List ℕ → List ℕ → Ordering
 by_key x y = compared (keys x) (keys y)
 
 -- which of two bytes that differ comes first
-unfoldable pub earlier : ℕ → ℕ → Order
+unfoldable pub earlier : ℕ → ℕ → Ordering
 earlier a b = cond (ltb (key a) (key b)) Less Greater
 
-unfoldable pub is_less : Order → Bool
+unfoldable pub is_less : Ordering → Bool
 is_less Less = true
 is_less Equal = false
 is_less Greater = false
 
-unfoldable pub is_equal : Order → Bool
+unfoldable pub is_equal : Ordering → Bool
 is_equal Less = false
 is_equal Equal = true
 is_equal Greater = false

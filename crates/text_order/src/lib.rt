@@ -4,12 +4,7 @@
 ghost use Rattle.std.specs.Prelude.{◌≡◌};
 ghost use Rattle.text_order.specs.Order.{key, earlier, by_key};
 
-#[derive(Clone, Copy)]
-pub enum Order {
-    Less,
-    Equal,
-    Greater,
-}
+use std::cmp::Ordering;
 
 // What a byte counts as in the order of texts: c0 before every other.
 fn key_of(b: u8) -> u32
@@ -22,33 +17,23 @@ fn key_of(b: u8) -> u32
 }
 
 // Which of two bytes that differ comes first.
-fn earlier_of(a: u8, b: u8) -> Order
+fn earlier_of(a: u8, b: u8) -> Ordering
     ensures { result ≡ earlier a b }
 {
-    let x = key_of(a);
-    let y = key_of(b);
-    if x < y {
-        return Order::Less;
+    if key_of(a) < key_of(b) {
+        return Ordering::Less;
     }
-    Order::Greater
+    Ordering::Greater
 }
 
 // The order of two texts, by their bytes: the first in which they differ decides.
-pub fn compare(a: &[u8], b: &[u8]) -> Order
+pub fn compare(a: &[u8], b: &[u8]) -> Ordering
     ensures { result ≡ by_key a.now b.now }
 {
-    let mut i = 0;
-    while i < a.len() {
-        if b.len() <= i {
-            return Order::Greater;
+    for (x, y) in a.iter().zip(b) {
+        if x != y {
+            return earlier_of(*x, *y);
         }
-        if a[i] != b[i] {
-            return earlier_of(a[i], b[i]);
-        }
-        i += 1;
     }
-    if i < b.len() {
-        return Order::Less;
-    }
-    Order::Equal
+    a.len().cmp(&b.len())
 }

@@ -8,14 +8,14 @@ pub returns-then-units-value : goal.returns-then-units-value
 unfolding staged_at
 returns-then-units-value c = search laws depth 8
 
-pub returns-in-Refused : goal.returns-in-Refused
+pub returns-in_err-value : goal.returns-in_err-value
 unfolding staged_at
-returns-in-Refused c = search laws depth 8
+returns-in_err-value c = search laws depth 8
 
-pub returns-in-Refused-count_at : goal.returns-in-Refused-count_at
+pub returns-in_err-units : goal.returns-in_err-units
 unfolding staged_at
-returns-in-Refused-count_at c = search laws depth 8
+returns-in_err-units c = search laws depth 8
 
-pub returns-else-units-value : goal.returns-else-units-value
+pub returns : goal.returns
 unfolding staged_at
-returns-else-units-value c = search laws depth 8
+returns c = search laws depth 8
