@@ -13,21 +13,17 @@ use mir.Syntax.{w8, w64}
 use mir.Val.{Fits}
 use Rattle.refusal.specs.Refusals.{runs_past}
 use Rattle.refusal.specs.declared.Refusal.{Refusal}
-use Rattle.refusal.specs.Outcome.{Outcome, answer, refused, ◌>>=◌, given}
-use Rattle.refusal.specs.Rows.{Found}
-use Rattle.refusal.proofs.Laws.{said, tests, calls, refused_by}
+use Rattle.refusal.specs.Outcome.{answer, refused, given}
+use Rattle.refusal.proofs.Laws.{tests, calls, refused_by}
 use Rattle.word.specs.Bytes.{stretch}
-use Rattle.leb128.proofs.Laws.{on_leb}
 use Rattle.value_heads.specs.declared.Walk.{Walk}
-use Rattle.value_heads.specs.declared.HeadByteAnswer.{HeadByteAnswer}
-use Rattle.value_heads.specs.declared.HeadByteAnswer.TheVariants as H
-use Rattle.value_heads.specs.declared.NumberAnswer.{NumberAnswer}
-use Rattle.value_heads.specs.declared.NumberAnswer.TheVariants as N
+use Rattle.std.specs.Prelude.{Ok, Err}
+use Rattle.refusal.specs.declared.Read.{Read}
 use Rattle.value_heads.specs.Kinds.{bytes_of, is_index, count_of, in_range}
 use Rattle.value_heads.specs.Numbers.{little}
 use Rattle.value_heads.specs.Readings.{head_byte_at, number_at}
 use Rattle.value_heads.specs.Rules.{HeadByteRule}
-use Rattle.value_heads.specs.Answers.{head_byte_outcome, number_outcome, Small}
+use Rattle.value_heads.specs.Answers.{Small}
 use Rattle.value_heads.proofs.Numbers.{size_some, size_none, size_small}
 use Rattle.word.proofs.Laws.{room_there, room_fits}
 use Rattle.value_heads.proofs.Exactly.{head_exact}
@@ -52,9 +48,9 @@ module _ (w : Walk) (code x : ℕ) {i : Bool} (e : i ≡ is_index code) where
   range_other t = rw (sym e ∙ t)
 
 -- ---- the head byte
-module _ (s : List ℕ) (item p : ℕ) {x : HeadByteAnswer} {h : ℕ} (e : head_byte_outcome x ≡ head_byte_at s item p) (t : x ≡ H.Got h) where
+module _ (s : List ℕ) (item p : ℕ) {h : ℕ} (e : answer h ≡ head_byte_at s item p) where
   pub head_there : HeadByteRule s p h
-  head_there = (head_exact s item p).sound h (sym (sym (ap head_byte_outcome t) ∙ e))
+  head_there = (head_exact s item p).sound h (sym e)
 
   pub after_head : Fits w64 (length s) → Fits w64 (p + 1)
   after_head f = let r = head_there.room in omega arith
@@ -74,19 +70,11 @@ size_few {h} e f = let z = size_small h (omega arith) in omega arith
 
 -- ---- what its number may be
 module _ {h : ℕ} where
-  pub small_got : {v n k : ℕ} → k ≡ bytes_of h → v < 2 ^ (8 * k) → Small h (N.Got v n)
-  small_got {v} {n} {k} e l = record { small = λ {v = u} t. let z : v ≡ u = cc in rw (← z, ← e) l }
+  pub small_got : {v n k : ℕ} → k ≡ bytes_of h → v < 2 ^ (8 * k) → Small h (Ok (record { value = v; next = n }))
+  small_got {v} {n} {k} e l = record { small = λ {v = u} {n = m} t. let same : record { value = v; next = n } ≡ record { value = u; next = m } = cc in let z : v ≡ u = ap (λ (r : Read ℕ). r.value) same in rw (← z, ← e) l }
 
-  pub small_refused : {r : Refusal} → Small h (N.Refused r)
+  pub small_refused : {r : Refusal} → Small h (Err r)
   small_refused = record { small = λ t. absurd (let z : ◌≡◌ {A = ℕ} 0 1 = cc in omega arith) }
-
-  pub small_again : {x : NumberAnswer} {v n : ℕ} → Small h x → x ≡ N.Got v n → Small h (N.Got v n)
-  small_again s e = rw e at s
-
--- ---- a call's answer, by the arm that was taken
-pub on_number : {B : Type 0} {x c : NumberAnswer} {o : Outcome (Found ℕ ℕ)} {y : Outcome B} (k : Found ℕ ℕ → Outcome B)
-    → number_outcome x ≡ o → x ≡ c → y ≡ (number_outcome c >>= k) → y ≡ (o >>= k)
-on_number = said number_outcome
 
 -- what the functions are searched with
 pub ruleset kind_laws = (size_some, size_none, index_high, index_low, range_index, range_other, rules)
@@ -97,4 +85,4 @@ pub ruleset head_laws = (calls, tests, rules)
 
 pub ruleset number_laws = (number_got, number_short, room_there, room_fits, size_few, small_got, small_refused, rules)
 
-pub ruleset checked_laws = (small_refused, small_again, on_number, on_leb, calls, tests, rules)
+pub ruleset checked_laws = (small_refused, calls, tests, rules)

@@ -2,33 +2,14 @@
 -- Assumes nothing.
 use Prim.Native.Nat.{ℕ}
 use mathlib.Core.Path.{◌≡◌, refl}
-use Rattle.refusal.specs.Outcome.{Outcome, answer, refused}
-use Rattle.refusal.specs.Rows.{Found}
-use Rattle.refusal.proofs.Laws.{one_to_one}
+use Rattle.std.specs.Prelude.{Result}
+use Rattle.refusal.specs.declared.Refusal.{Refusal}
+use Rattle.refusal.specs.declared.Read.{Read}
+use Rattle.refusal.proofs.Kept.{same_once, read_once}
 use Rattle.value_heads.specs.Answers.{head_byte_outcome, number_outcome}
-use Rattle.value_heads.specs.declared.HeadByteAnswer as H
-use Rattle.value_heads.specs.declared.NumberAnswer as N
 
-head_back : Outcome ℕ → H.HeadByteAnswer
-head_back (answer h) = H.TheVariants.Got h
-head_back (refused r) = H.TheVariants.Refused r
+pub head_once : (x y : Result ℕ Refusal) → head_byte_outcome x ≡ head_byte_outcome y → x ≡ y
+head_once = same_once
 
-head_told : (x : H.HeadByteAnswer) → head_back (head_byte_outcome x) ≡ x
-unfolding head_back
-head_told (H.TheVariants.Got h) = refl
-head_told (H.TheVariants.Refused r) = refl
-
-pub head_once : (x y : H.HeadByteAnswer) → head_byte_outcome x ≡ head_byte_outcome y → x ≡ y
-head_once = one_to_one head_byte_outcome head_back head_told
-
-number_back : Outcome (Found ℕ ℕ) → N.NumberAnswer
-number_back (answer r) = N.TheVariants.Got r.item r.next
-number_back (refused r) = N.TheVariants.Refused r
-
-number_told : (x : N.NumberAnswer) → number_back (number_outcome x) ≡ x
-unfolding number_back
-number_told (N.TheVariants.Got v n) = refl
-number_told (N.TheVariants.Refused r) = refl
-
-pub number_once : (x y : N.NumberAnswer) → number_outcome x ≡ number_outcome y → x ≡ y
-number_once = one_to_one number_outcome number_back number_told
+pub number_once : (x y : Result (Read ℕ) Refusal) → number_outcome x ≡ number_outcome y → x ≡ y
+number_once = read_once (λ (v : ℕ). v) (λ (v : ℕ). v) (λ v. refl)

@@ -1,5 +1,5 @@
 -- What the answers of the code say.
-use Rattle.std.specs.Prelude.{ℕ, ◌*◌, ◌^◌, ◌<◌, ◌≡◌, Result}
+use Rattle.std.specs.Prelude.{ℕ, ◌*◌, ◌^◌, ◌<◌, ◌≡◌, Result, Ok}
 use Rattle.refusal.specs.Outcome.{Outcome}
 use Rattle.refusal.specs.Rows.{Found}
 use Rattle.value_heads.specs.Kinds.{bytes_of}
@@ -14,5 +14,5 @@ abbrev pub number_outcome : Result (R.Read ℕ) Refusal → Outcome (Found ℕ �
 number_outcome = outcome (found (λ (v : ℕ). v))
 
 -- a number is no larger than its bytes allow
-pub record Small (head : ℕ) (x : N.NumberAnswer) : Type 0 where
-  pub small : {v n : ℕ} → x ≡ N.TheVariants.Got v n → v < 2 ^ (8 * bytes_of head)
+pub record Small (head : ℕ) (x : Result (R.Read ℕ) Refusal) : Type 0 where
+  pub small : {v n : ℕ} → x ≡ Ok (record { value = v; next = n }) → v < 2 ^ (8 * bytes_of head)

@@ -111,10 +111,8 @@ fn joined(s: &[u8], at: usize, n: usize) -> u64
     ensures { (result ≡ little (stretch s.now at n)) × (result < 2 ^ (8 * n)) }
 {
     let mut sum: u64 = 0;
-    let mut left = n;
-    while 0 < left {
-        left -= 1;
-        sum = sum * 256 + s[at + left] as u64;
+    for i in (0..n).rev() {
+        sum = sum * 256 + s[at + i] as u64;
     }
     sum
 }

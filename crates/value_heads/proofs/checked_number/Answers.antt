@@ -6,10 +6,10 @@ pub returns-then-is_in_range : goal.returns-then-is_in_range
 unfolding checked_at
 returns-then-is_in_range c = search laws
 
-pub returns-in-Refused : goal.returns-in-Refused
+pub returns-in_err-value : goal.returns-in_err-value
 unfolding checked_at
-returns-in-Refused c = search laws
+returns-in_err-value c = search laws
 
-pub returns-else-is_in_range : goal.returns-else-is_in_range
+pub returns : goal.returns
 unfolding checked_at
-returns-else-is_in_range c = search laws
+returns c = search laws

@@ -6,10 +6,10 @@ pub returns-then-value-count : goal.returns-then-value-count
 unfolding index_at
 returns-then-value-count c = search laws
 
-pub returns-in-Refused : goal.returns-in-Refused
+pub returns-in_err-value : goal.returns-in_err-value
 unfolding index_at
-returns-in-Refused c = search laws
+returns-in_err-value c = search laws
 
-pub returns-else-value-count : goal.returns-else-value-count
+pub returns : goal.returns
 unfolding index_at
-returns-else-value-count c = search laws
+returns c = search laws
