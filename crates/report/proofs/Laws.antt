@@ -1,11 +1,11 @@
 -- What the functions' proofs cite: bytes stored one after the other, the digits' steps, lines, and the two ways of the writer.
 -- Assumes nothing.
-use Prim.Native.Nat.{ℕ, zero, suc, ◌+◌, ◌-◌, ◌*◌, ◌/◌, ◌%◌, ◌^◌, ◌≤◌, ◌<◌}
+use Prim.Native.Nat.{ℕ, ◌+◌, ◌-◌, ◌/◌, ◌%◌, ◌≤◌, ◌<◌}
 use mathlib.Core.Path.{◌≡◌, refl, ap, sym, ◌∙◌}
 use mathlib.Core.Bool.{Bool, true, false}
 use mathlib.Core.List.{List, [], ◌∷◌, ◌++◌, append_assoc, append-nil}
-use lib.ListN.{length, take, drop, set, get_or, length-append, length-take, length-drop, take-append-drop}
-use lib.Seq.{take-suc, take_all, take_at, drop_at, drop-drop, set_split}
+use lib.ListN.{length, take, drop, set, length-append, length-take, length-drop}
+use lib.Seq.{take_at, drop_at, drop-drop, set_split}
 use borrow.Author.Rules.{rules}
 use lib.Dec.{leb}
 use borrow.Author.Tests.{le-leb, lt-leb, leb-true, leb-false}
@@ -19,12 +19,8 @@ use Rattle.refusal.proofs.Laws.{passes, fails}
 use Rattle.word.specs.declared.Endian.{Endian}
 use Rattle.word.specs.declared.Endian.TheVariants.{Little, Big}
 use Rattle.refusal.specs.declared.Refusal.{Refusal}
-use Rattle.header.specs.declared.Header.{Header}
-use Rattle.verdict.specs.declared.Verdict.{Verdict}
-use Rattle.verdict.specs.declared.Verdict as D
-use Rattle.verdict.specs.Answers.{verdict_outcome}
 use Rattle.report.specs.Decimal.{decimal}
-use Rattle.report.specs.Lines.{Line, told, lines, counted, order_line, accepted_lines, refused_lines, report_of}
+use Rattle.report.specs.Lines.{Line, told, lines, counted, order_line}
 use Rattle.report.specs.Stored.{placed, Stored, written, content}
 use Rattle.report.specs.Rows.{Named, ThreeNamed, Rows}
 use Rattle.report.proofs.Decimals.{decimal_small, decimal_large, digits_of_64}
@@ -72,53 +68,17 @@ byte_placed b p out h = set_split out p b h ∙ ap (λ (k : ℕ). take p out ++ 
 pub stored_byte : (b p : ℕ) (out : List ℕ) → p < length out → Stored (b ∷ []) p out (set out p b) (p + 1)
 stored_byte b p out h = record { room = omega arith; content = byte_placed b p out h; ends = refl }
 
--- ---- the loop of `put`: i bytes of the text are stored, the next goes to p
-pub record Copying (text : List ℕ) (at : ℕ) (out₀ out : List ℕ) (i p : ℕ) : Type 0 where
-  so_far : Stored (take i text) at out₀ out p
-  pub few : i ≤ length text
-  pub room : at + length text ≤ length out₀
-  pub long : length out ≡ length out₀
-  pub next : p ≡ at + i
+-- ---- a text, put from a place on
+module _ (text : List ℕ) (at : ℕ) (out : List ℕ) (h : at + length text ≤ length out) where
+  pub put_stored : Stored text at out (take at out ++ (text ++ drop (at + length text - at) (drop at out))) (at + length text)
+  unfolding placed
+  put_stored = record {
+    room = h;
+    content = let same : at + length text - at ≡ length text = omega arith in ap (λ (k : ℕ). take at out ++ (text ++ drop k (drop at out))) same ∙ ap (λ (l : List ℕ). take at out ++ (text ++ l)) (drop-drop (length text) at out);
+    ends = refl;
+  }
 
-nothing_placed : (p : ℕ) (out : List ℕ) → out ≡ placed [] p out
-unfolding placed
-nothing_placed p out = sym (ap (λ (k : ℕ). take p out ++ drop k out) (zero_more p) ∙ take-append-drop p out)
-  where
-    zero_more : (k : ℕ) → k + 0 ≡ k
-    zero_more k = omega arith
-
-pub copy_first : (text : List ℕ) (at : ℕ) (out : List ℕ) → at + length text ≤ length out → Copying text at out out 0 at
-copy_first text at out h = record {
-  so_far = record { room = omega arith; content = nothing_placed at out; ends = omega arith };
-  few = omega arith;
-  room = h;
-  long = refl;
-  next = omega arith;
-}
-
-module _ {text : List ℕ} {at : ℕ} {out₀ out : List ℕ} {i p : ℕ} (h : Copying text at out₀ out i p) where
-  pub copy_in : i < length text → p < length out
-  copy_in l = let z = h.room in let y = h.long in let x = h.next in omega arith
-
-  pub copy_in₀ : i < length text → p < length out₀
-  copy_in₀ l = let z = h.room in let x = h.next in omega arith
-
-  pub copy_next : i < length text → Copying text at out₀ (set out p (get_or text i 0)) (i + 1) (p + 1)
-  copy_next l =
-      let one = stored_then h.so_far (stored_byte (get_or text i 0) p out (copy_in l)) in
-      let more = rw (← take-suc text i 0 l, ← add-one i) at one in
-      record {
-        so_far = more;
-        few = omega arith;
-        room = h.room;
-        long = stored_long more;
-        next = let z = h.next in omega arith;
-      }
-
-  pub copy_done : length text ≤ i → Stored text at out₀ out p
-  copy_done l = rw (take_all i text l) at h.so_far
-
-pub ruleset copy_laws = (copy_first, copy_in, copy_in₀, copy_next, copy_done, rules)
+pub ruleset put_laws = (put_stored, rules)
 
 -- ---- the digits
 module _ (n at : ℕ) (out : List ℕ) (h : at + length (decimal n) ≤ length out) where
@@ -314,27 +274,6 @@ module _ {ls : List Line} {room made : List ℕ} {n : ℕ} (s : Rows ls 0 room m
 pub ruleset report_laws = (report_answer, report_content, rules)
 
 pub ruleset text_laws = (short_answer, short_content, whole_room, whole_answer, whole_content, rules)
-
--- ---- a verdict's report
-module _ (v : Verdict) (said : Outcome ℕ) (k : ℕ) where
-  pub got_answer : (h : Header) → v ≡ D.TheVariants.Accepted h → said ≡ written (lines (accepted_lines h)) k → said ≡ written (report_of (verdict_outcome v)) k
-  unfolding report_of
-  got_answer h e a = rw e a
-
-  pub refused_answer : (r : Refusal) → v ≡ D.TheVariants.Refused r → said ≡ written (lines (refused_lines r)) k → said ≡ written (report_of (verdict_outcome v)) k
-  unfolding report_of
-  refused_answer r e a = rw e a
-
-module _ (v : Verdict) (after out : List ℕ) where
-  pub got_content : (h : Header) → v ≡ D.TheVariants.Accepted h → after ≡ content (lines (accepted_lines h)) out → after ≡ content (report_of (verdict_outcome v)) out
-  unfolding report_of
-  got_content h e a = rw e a
-
-  pub refused_content : (r : Refusal) → v ≡ D.TheVariants.Refused r → after ≡ content (lines (refused_lines r)) out → after ≡ content (report_of (verdict_outcome v)) out
-  unfolding report_of
-  refused_content r e a = rw e a
-
-pub ruleset verdict_laws = (got_answer, refused_answer, got_content, refused_content, rules)
 
 -- a text that was written has this length and fits the output; one that was not is longer than the room
 pub got_length : (text : List ℕ) (room k : ℕ) → answer k ≡ written text room → (k ≡ length text) × (length text ≤ room)

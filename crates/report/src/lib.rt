@@ -27,14 +27,9 @@ fn put(text: &[u8], out: &mut [u8], at: usize) -> usize
     requires { at + length text.now ≤ length out.old }
     ensures { Stored text.now at out.old out.new result }
 {
-    let mut i: usize = 0;
-    let mut p = at;
-    while i < text.len() {
-        out[p] = text[i];
-        i += 1;
-        p += 1;
-    }
-    p
+    let end = at + text.len();
+    out[at..end].copy_from_slice(text);
+    end
 }
 
 // The digits of a number: those of a tenth of it, then the last.

@@ -1,6 +1,4 @@
 use Rattle.report.proofs.Laws.{digit_laws as laws}
-use Rattle.report.proofs.put_digits.Kinds as put-digits-kinds
-use Rattle.report.proofs.+put_digits.Lts-put_digits as put-digits-lts
 use Rattle.report.proofs.+put_digits.Goals as goal
 
 pub put_byte-requires : goal.put_byte-requires

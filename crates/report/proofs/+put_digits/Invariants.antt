@@ -1,5 +1,3 @@
-use Rattle.report.proofs.put_digits.Kinds as put-digits-kinds
-use Rattle.report.proofs.+put_digits.Lts-put_digits as put-digits-lts
 use Rattle.report.proofs.+put_digits.Given as goal
 
 abbrev pub decreases-put_digits : goal.decreases-put_digits

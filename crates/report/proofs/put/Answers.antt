@@ -1,11 +1,5 @@
-use Rattle.report.proofs.Laws.{copy_laws as laws}
+use Rattle.report.proofs.Laws.{put_laws as laws}
 use Rattle.report.proofs.put.Goals as goal
-
-pub loop-i-init : goal.loop-i-init
-loop-i-init c = search laws
-
-pub loop-i-preserved : goal.loop-i-preserved
-loop-i-preserved c = search laws
 
 pub returns : goal.returns
 returns c = search laws

@@ -1,14 +1,19 @@
-use Rattle.report.proofs.Laws.{verdict_laws as laws}
+use borrow.Author.Rules.{rules}
+use Rattle.report.specs.Lines.{report_of}
 use Rattle.report.proofs.verdict_into.Goals as goal
 
-pub returns-in-Accepted-clause-answer : goal.returns-in-Accepted-clause-answer
-returns-in-Accepted-clause-answer c = search laws
+pub returns-in-Ok-clause-answer : goal.returns-in-Ok-clause-answer
+unfolding report_of
+returns-in-Ok-clause-answer c = search rules
 
-pub returns-in-Accepted-clause-wrote : goal.returns-in-Accepted-clause-wrote
-returns-in-Accepted-clause-wrote c = search laws
+pub returns-in-Ok-clause-wrote : goal.returns-in-Ok-clause-wrote
+unfolding report_of
+returns-in-Ok-clause-wrote c = search rules
 
-pub returns-in-Refused-clause-answer : goal.returns-in-Refused-clause-answer
-returns-in-Refused-clause-answer c = search laws
+pub returns-in-Err-clause-answer : goal.returns-in-Err-clause-answer
+unfolding report_of
+returns-in-Err-clause-answer c = search rules
 
-pub returns-in-Refused-clause-wrote : goal.returns-in-Refused-clause-wrote
-returns-in-Refused-clause-wrote c = search laws
+pub returns-in-Err-clause-wrote : goal.returns-in-Err-clause-wrote
+unfolding report_of
+returns-in-Err-clause-wrote c = search rules
