@@ -13,7 +13,7 @@ use Rattle.refusal.specs.Exact.{Present, absent, found_there, Row, empty, first,
 use Rattle.refusal.proofs.Each.{at_below, at_some}
 use Rattle.header.specs.Header.{up_to_end, plain_frame}
 use Rattle.class_ids.specs.declared.Class.{Class}
-use Rattle.class_ids.specs.declared.Maybe.TheVariants.{Number, Absent}
+use Rattle.std.specs.Prelude.{Some, None}
 use Rattle.class_ids.specs.Classes.{maybe_of}
 use Rattle.class_ids.specs.Rules.{IndexOrNone}
 use Rattle.class_members.specs.declared.Member as M
@@ -61,7 +61,7 @@ given_below : (P : ℕ → Type 0) (v count : ℕ) → IndexOrNone v count → (
 unfolding maybe_of
 given_below P v count h low = go (eqb v 0xffffffff) refl h
   where
-    go : (b : Bool) → eqb v 0xffffffff ≡ b → IndexOrNone v count → IfGiven P (cond b Absent (Number v))
+    go : (b : Bool) → eqb v 0xffffffff ≡ b → IndexOrNone v count → IfGiven P (cond b None (Some v))
     go true t i = tt
     go false t (inl e) = absurd (false≢true (sym t ∙ eq-eqb v 0xffffffff e))
     go false t (inr p) = low p

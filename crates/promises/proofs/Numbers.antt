@@ -7,8 +7,8 @@ use mathlib.Core.List.{List}
 use native.Mathlib.Omega.{arith}
 use Rattle.refusal.specs.Exact.{Present, absent, found_there, At}
 use Rattle.refusal.proofs.Each.{at_some}
-use Rattle.class_ids.specs.declared.Maybe.{Maybe}
-use Rattle.class_ids.specs.declared.Maybe.TheVariants.{Number, Absent}
+use Rattle.std.specs.Prelude as S
+use Rattle.std.specs.Prelude.{Some, None}
 use Rattle.promises.specs.Numbers.{EachIn, There, LeadsTo, IfThere, IfGiven}
 
 -- what holds of each item of a list holds of each number below its length
@@ -32,6 +32,6 @@ pub if_there_then : {A : Type 0} (P Q : A → Type 0) → ((a : A) → P a → Q
 if_there_then P Q step none h = tt
 if_there_then P Q step (some a) h = step a h
 
-pub if_given_then : (P Q : ℕ → Type 0) → ((n : ℕ) → P n → Q n) → (m : Maybe) → IfGiven P m → IfGiven Q m
-if_given_then P Q step Absent h = tt
-if_given_then P Q step (Number n) h = step n h
+pub if_given_then : (P Q : ℕ → Type 0) → ((n : ℕ) → P n → Q n) → (m : S.Option ℕ) → IfGiven P m → IfGiven Q m
+if_given_then P Q step None h = tt
+if_given_then P Q step (Some n) h = step n h

@@ -1,12 +1,11 @@
 -- "The numbers and places that a file gives, in demand 3, are the indices tested by 11, table and list numbers below their counts, body offsets tested by 8, and nested
 -- bodies' offsets. Map entries' offsets, link fields and instruction units give none." The words in which `readers_answer` says that each of them is answered.
-use Rattle.std.specs.Prelude.{ℕ, ◌<◌, ◌≡◌, Bool, List, length}
+use Rattle.std.specs.Prelude.{ℕ, ◌<◌, ◌≡◌, Bool, List, length, Some, None}
 use Rattle.std.proofs.Math.Option.{Option, none, some}
 use Rattle.refusal.specs.Outcome.{Outcome, answer}
 use Rattle.refusal.specs.Exact.{At}
 use Rattle.access_flags.specs.Flags.{flags}
-use Rattle.class_ids.specs.declared.Maybe.{Maybe}
-use Rattle.class_ids.specs.declared.Maybe.TheVariants.{Number, Absent}
+use Rattle.std.specs.Prelude as S
 
 -- a reader answers, and refuses nothing
 abbrev pub Answers : {A : Type 0} → Outcome A → Type 0
@@ -34,9 +33,9 @@ IfThere P none = Unit
 IfThere P (some a) = P a
 
 -- "0xFFFFFFFF means none for superclass and source file only."
-abbrev pub IfGiven : (ℕ → Type 0) → Maybe → Type 0
-IfGiven P Absent = Unit
-IfGiven P (Number n) = P n
+abbrev pub IfGiven : (ℕ → Type 0) → S.Option ℕ → Type 0
+IfGiven P None = Unit
+IfGiven P (Some n) = P n
 
 -- "absent class data, code or debug information is answered as none"
 abbrev pub none_or : {A B : Type 0} → (A → B) → Option A → Option B
