@@ -1,6 +1,5 @@
 // Kinds 0 to 4: LEB128 numbers and texts.
 use decoded_value::Value;
-use leb128::PlusOneAnswer;
 use refusal::{Read, Refusal};
 use std::cmp::Ordering;
 
@@ -39,9 +38,14 @@ fn signed(s: &[u8], at: usize, item: usize) -> [u64; 20] {
 // Is there a number, the number, and the place after it.
 fn plus_one(s: &[u8], at: usize, item: usize) -> [u64; 20] {
     match leb128::uleb_p1(s, at, item) {
-        PlusOneAnswer::Refused(r) => refused(r),
-        PlusOneAnswer::Absent { next } => four(0, 0, next as u64, 0),
-        PlusOneAnswer::Got { value, next } => four(1, value as u64, next as u64, 0),
+        Err(r) => refused(r),
+        Ok(Read { value: None, next }) => four(0, 0, next as u64, 0),
+        Ok(
+            Read {
+                value: Some(value),
+                next,
+            },
+        ) => four(1, value as u64, next as u64, 0),
     }
 }
 
@@ -55,24 +59,15 @@ fn order(a: &[u8], b: &[u8]) -> [u64; 20] {
 
 // An item at b, whose number is at a; of two texts the first has a bytes, the second b.
 pub(crate) fn row(s: &[u8], kind: u8, a: usize, b: usize) -> [u64; 20] {
-    if kind == 0 {
-        return unsigned(s, a, b);
+    match kind {
+        0 => unsigned(s, a, b),
+        1 => signed(s, a, b),
+        2 => plus_one(s, a, b),
+        3 => answer_rows::text_row(text::string_at(s, a)),
+        _ => order(word::bytes_at(s, 0, a), word::bytes_at(s, a, b)),
     }
-    if kind == 1 {
-        return signed(s, a, b);
-    }
-    if kind == 2 {
-        return plus_one(s, a, b);
-    }
-    if kind == 3 {
-        return answer_rows::text_row(text::string_at(s, a));
-    }
-    order(word::bytes_at(s, 0, a), word::bytes_at(s, a, b))
 }
 
 pub(crate) fn written_row(a: Result<u32, Refusal>) -> [u64; 20] {
-    match a {
-        Err(r) => answer_rows::written_row(Err(r)),
-        Ok(n) => answer_rows::written_row(Ok(Some(n as usize))),
-    }
+    answer_rows::written_row(a.map(|n| Some(n as usize)))
 }

@@ -83,20 +83,12 @@ fn head(s: &[u8], w: Walk, at: usize) -> [u64; 20] {
 
 // At a place, with so many bodies left to go into, or the number of a value.
 pub(crate) fn row(s: &[u8], kind: u8, w: Walk, at: usize, k: u32) -> [u64; 20] {
-    if kind == 8 {
-        return decoded(s, w, at, k);
+    match kind {
+        8 => decoded(s, w, at, k),
+        9 => gone_over(s, w, at, k),
+        10 => answer_rows::size_row(value_bodies::array_count(s, w, at)),
+        11 => answer_rows::picked_row(value_bodies::array_value(s, w, at, k)),
+        12 => head(s, w, at),
+        _ => answer_rows::element_row(value_bodies::annotation_element(s, w, at, k)),
     }
-    if kind == 9 {
-        return gone_over(s, w, at, k);
-    }
-    if kind == 10 {
-        return answer_rows::size_row(value_bodies::array_count(s, w, at));
-    }
-    if kind == 11 {
-        return answer_rows::picked_row(value_bodies::array_value(s, w, at, k));
-    }
-    if kind == 12 {
-        return head(s, w, at);
-    }
-    answer_rows::element_row(value_bodies::annotation_element(s, w, at, k))
 }

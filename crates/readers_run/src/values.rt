@@ -1,21 +1,13 @@
 // Readers 48 to 53: the body or the annotation item at a place; 54 and 55: static fields with their values.
 pub(crate) fn row(f: &[u8], reader: u8, place: usize, k: u32) -> [u64; 20] {
-    if reader == 49 {
-        return answer_rows::picked_row(dex::array_value(f, place, k));
+    match reader {
+        49 => answer_rows::picked_row(dex::array_value(f, place, k)),
+        50 => answer_rows::body_row(dex::annotation_body(f, place)),
+        51 => answer_rows::element_row(dex::annotation_body_element(f, place, k)),
+        52 => answer_rows::annotation_row(dex::annotation(f, place)),
+        53 => answer_rows::element_row(dex::annotation_element(f, place, k)),
+        _ => answer_rows::array_row(dex::array(f, place)),
     }
-    if reader == 50 {
-        return answer_rows::body_row(dex::annotation_body(f, place));
-    }
-    if reader == 51 {
-        return answer_rows::element_row(dex::annotation_body_element(f, place, k));
-    }
-    if reader == 52 {
-        return answer_rows::annotation_row(dex::annotation(f, place));
-    }
-    if reader == 53 {
-        return answer_rows::element_row(dex::annotation_element(f, place, k));
-    }
-    answer_rows::array_row(dex::array(f, place))
 }
 
 pub(crate) fn static_row(f: &[u8], reader: u8, c: u32, k: u32) -> [u64; 20] {
