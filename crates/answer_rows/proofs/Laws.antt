@@ -78,66 +78,6 @@ paired_by v field flags stored e q = λ i. set (set (q i) 5 flags) 6 (e i)
 
 pub ruleset laws = (shown_by, numbered_by, signed_by, paired_by, rules)
 
--- ---- rows: the arm that was taken says which answer it is
-pub arm : {X A : Type 0} (means : X → Outcome A) (words : A → List ℕ) (x c : X) {y : List ℕ} → x ≡ c → y ≡ told words (means c) → y ≡ told words (means x)
-arm means words x c e q = q ∙ ap (λ (u : _). told words (means u)) (sym e)
-
-pub count_arm : (x c : Count.CountAnswer) {y : List ℕ} → x ≡ c → y ≡ told number_words (count_outcome c) → y ≡ told number_words (count_outcome x)
-count_arm = arm count_outcome number_words
-
-pub entry_arm : (x c : Entry.MapEntryAnswer) {y : List ℕ} → x ≡ c → y ≡ told entry_words (entry_outcome c) → y ≡ told entry_words (entry_outcome x)
-entry_arm = arm entry_outcome entry_words
-
-pub handle_arm : (x c : Handle.HandleAnswer) {y : List ℕ} → x ≡ c → y ≡ told handle_words (handle_outcome c) → y ≡ told handle_words (handle_outcome x)
-handle_arm = arm handle_outcome handle_words
-
-pub text_arm : (x c : Text.TextAnswer) {y : List ℕ} → x ≡ c → y ≡ told text_words (text_outcome c) → y ≡ told text_words (text_outcome x)
-text_arm = arm text_outcome text_words
-
-pub index_arm : (x c : Index.IndexAnswer) {y : List ℕ} → x ≡ c → y ≡ told number_words (index_outcome c) → y ≡ told number_words (index_outcome x)
-index_arm = arm index_outcome number_words
-
-pub proto_arm : (x c : Proto.ProtoAnswer) {y : List ℕ} → x ≡ c → y ≡ told proto_words (proto_outcome c) → y ≡ told proto_words (proto_outcome x)
-proto_arm = arm proto_outcome proto_words
-
-pub member_arm : (x c : Member.MemberIdAnswer) {y : List ℕ} → x ≡ c → y ≡ told member_words (member_id_outcome c) → y ≡ told member_words (member_id_outcome x)
-member_arm = arm member_id_outcome member_words
-
-pub list_arm : (x c : List.TypeCountAnswer) {y : List ℕ} → x ≡ c → y ≡ told number_words (list_outcome c) → y ≡ told number_words (list_outcome x)
-list_arm = arm list_outcome number_words
-
-pub listed_arm : (x c : Listed.TypeAnswer) {y : List ℕ} → x ≡ c → y ≡ told number_words (listed-outcome c) → y ≡ told number_words (listed-outcome x)
-listed_arm = arm listed-outcome number_words
-
-pub flags_arm : (x c : Flags.FlagsAnswer) {y : List ℕ} → x ≡ c → y ≡ told number_words (flags_outcome c) → y ≡ told number_words (flags_outcome x)
-flags_arm = arm flags_outcome number_words
-
-pub array_arm : (x c : Array.ArrayAnswer) {y : List ℕ} → x ≡ c → y ≡ told array_words (array_outcome c) → y ≡ told array_words (array_outcome x)
-array_arm = arm array_outcome array_words
-
-pub body_arm : (x c : Body.BodyAnswer) {y : List ℕ} → x ≡ c → y ≡ told body_words (body_outcome c) → y ≡ told body_words (body_outcome x)
-body_arm = arm body_outcome body_words
-
-pub size_arm : (x c : Size.BodySizeAnswer) {y : List ℕ} → x ≡ c → y ≡ told number_words (size-outcome c) → y ≡ told number_words (size-outcome x)
-size_arm = arm size-outcome number_words
-
-pub picked_arm : (x c : Picked.PickedAnswer) {y : List ℕ} → x ≡ c → y ≡ told value_words (picked_outcome c) → y ≡ told value_words (picked_outcome x)
-picked_arm = arm picked_outcome value_words
-
-pub element_arm : (x c : Element.ElementAnswer) {y : List ℕ} → x ≡ c → y ≡ told element_words (element_outcome c) → y ≡ told element_words (element_outcome x)
-element_arm = arm element_outcome element_words
-
-arm_if : {X A : Type 0} (means : X → Outcome (Option A)) (words : A → List ℕ) (x c : X) {y : List ℕ} → x ≡ c → y ≡ told_if words (means c) → y ≡ told_if words (means x)
-arm_if means words x c e q = q ∙ ap (λ (u : _). told_if words (means u)) (sym e)
-
-pub static_arm : (x c : Static.StaticFieldAnswer) {y : List ℕ} → x ≡ c → y ≡ told_if static_words (maybe_field c) → y ≡ told_if static_words (maybe_field x)
-static_arm = arm_if maybe_field static_words
-
-pub wrong_arm : (x c : Wrong.WrongKindAnswer) {y : List ℕ} → x ≡ c → y ≡ told_if wrong_words (maybe_wrong c) → y ≡ told_if wrong_words (maybe_wrong x)
-wrong_arm = arm_if maybe_wrong wrong_words
-
-pub ruleset arms = (static_arm, wrong_arm, count_arm, entry_arm, handle_arm, text_arm, index_arm, proto_arm, member_arm, list_arm, listed_arm, flags_arm, array_arm, body_arm, size_arm, picked_arm, element_arm, rules)
-
 -- ---- the larger rows
 pub ordered : (h : Header) {o : ℕ} {y : List ℕ} → o ≡ order_word h.order → y ≡ row (0 ∷ ordered_words h o) → y ≡ row (0 ∷ header_words h)
 unfolding header_words
@@ -147,16 +87,4 @@ pub joined : (c : Class) {s f : ℕ} {y : List ℕ} → s ≡ maybe_word c.super
 unfolding class_words
 joined c e g q = q ∙ λ i. row (0 ∷ joined_words c (e i) (g i))
 
-pub header_arm : (words : Header → List ℕ) (x c : HeaderAnswer) {y : List ℕ} → x ≡ c → y ≡ told words (header_outcome c) → y ≡ told words (header_outcome x)
-header_arm words = arm header_outcome words
-
-pub class_arm : (x c : ClassAnswer) {y : List ℕ} → x ≡ c → y ≡ told class_words (class_outcome c) → y ≡ told class_words (class_outcome x)
-class_arm = arm class_outcome class_words
-
-pub lookup_arm : (x c : Lookup.LookupAnswer) {y : List ℕ} → x ≡ c → y ≡ told_if number_words (lookup_outcome c) → y ≡ told_if number_words (lookup_outcome x)
-lookup_arm x c e q = q ∙ ap (λ (u : Lookup.LookupAnswer). told_if number_words (lookup_outcome u)) (sym e)
-
-pub found_arm : (x c : FoundString) {y : List ℕ} → x ≡ c → y ≡ told_if number_words (lookup_outcome (Lookup.TheVariants.Got c)) → y ≡ told_if number_words (lookup_outcome (Lookup.TheVariants.Got x))
-found_arm x c e q = q ∙ ap (λ (u : FoundString). told_if number_words (lookup_outcome (Lookup.TheVariants.Got u))) (sym e)
-
-pub ruleset heads = (ordered, joined, header_arm, class_arm, lookup_arm, found_arm, rules)
+pub ruleset heads = (ordered, joined, rules)

@@ -1,6 +1,6 @@
 -- An answer as a C program finds it: twenty words of 64 bits. Word 0 says which: 0 an answer, whose words follow; 1 none; 2 a refusal, whose
 -- number and place follow. The words that are left are 0.
-use Rattle.std.specs.Prelude.{ℕ, zero, suc, ◌-◌, ◌^◌, Bool, cond, List, [], ◌∷◌, ℤ, pos, negsuc}
+use Rattle.std.specs.Prelude.{ℕ, zero, suc, ◌-◌, ◌^◌, Bool, cond, List, [], ◌∷◌, ℤ, pos, negsuc, Some, None}
 use Rattle.std.proofs.Math.Option.{Option, none, some}
 use Rattle.refusal.specs.declared.Refusal.{Refusal}
 use Rattle.refusal.specs.Outcome.{Outcome, answer, refused}
@@ -13,7 +13,7 @@ use Rattle.ids.specs.declared.Proto.{Proto}
 use Rattle.ids.specs.declared.MemberId.{MemberId}
 use Rattle.ids.specs.declared.Handle.{Handle}
 use Rattle.class_ids.specs.declared.Class.{Class}
-use Rattle.class_ids.specs.declared.Maybe as M
+use Rattle.std.specs.Prelude as S
 use Rattle.decoded_value.specs.Shown.{Shown, Content, integer, natural, floating, row_number, body, nothing, truth}
 use Rattle.value_bodies.specs.Bodies.{ShownElement}
 use Rattle.value_readers.specs.Bodies.{ArraySize, NotedSize}
@@ -86,9 +86,9 @@ member_words m = m.class ∷ m.kind ∷ m.name ∷ []
 abbrev pub handle_words : Handle → List ℕ
 handle_words h = h.kind ∷ h.number ∷ []
 
-abbrev pub maybe_word : M.Maybe → ℕ
-maybe_word (M.TheVariants.Number n) = n
-maybe_word M.TheVariants.Absent = no_number
+abbrev pub maybe_word : S.Option ℕ → ℕ
+maybe_word (Some n) = n
+maybe_word None = no_number
 
 unfoldable pub joined_words : Class → ℕ → ℕ → List ℕ
 joined_words c superclass source = c.class ∷ c.flags ∷ superclass ∷ c.interfaces ∷ source ∷ c.directory ∷ c.«data» ∷ c.values ∷ []

@@ -132,7 +132,8 @@ pub fn class_row(a: Result<Class, Refusal>) -> [u64; 20]
     }
 }
 
-pub fn lookup_row(a: Result<Option<u32>, Refusal>) -> [u64; 20]
+// A number, or none: of a string that was sought, of a try that covers an address.
+pub fn number_if_row(a: Result<Option<u32>, Refusal>) -> [u64; 20]
     ensures { result ≡ told_if number_words (lookup_outcome a) }
 {
     match a {

@@ -7,14 +7,12 @@ mod notes;
 mod rows;
 mod words;
 
-pub use heads::{class_row, header_row, lookup_row, signature_row};
+pub use heads::{class_row, header_row, number_if_row, signature_row};
 pub use members::{
-    code_row, cover_row, data_row, debug_row, found_row, handler_row, name_row, pair_row, try_row,
-    written_row,
+    code_row, data_row, debug_row, found_row, handler_row, name_row, pair_row, try_row, written_row,
 };
-pub use notes::{annotation_row, checked_row, directory_row, place_row, word_row};
+pub use notes::{annotation_row, checked_row, directory_row, place_row};
 pub use rows::{
-    array_row, body_row, count_row, element_row, entry_row, flags_row, handle_row, index_row,
-    list_row, listed_row, member_row, picked_row, proto_row, size_row, static_row, text_row,
-    wrong_row,
+    array_row, body_row, element_row, entry_row, flags_row, handle_row, member_row, number_row,
+    picked_row, proto_row, static_row, text_row, wrong_row,
 };

@@ -2,12 +2,10 @@
 ghost use Rattle.std.specs.Prelude.{◌≡◌, ◌∷◌};
 ghost use Rattle.std.proofs.Math.Option.{Option};
 ghost use Rattle.refusal.specs.Outcome.{answer};
-ghost use Rattle.code_item.specs.Answers.{catch_meant, cover_meant};
-ghost use Rattle.debug_info.specs.Answers.{name_meant};
+ghost use Rattle.code_item.specs.Answers.{catch_meant};
 ghost use Rattle.class_readers.specs.Answers.{maybe_data as data_outcome, maybe_member as found_outcome, maybe_count as written-outcome};
 ghost use Rattle.code_readers.specs.Answers.{maybe_code as code_outcome, maybe_try as try_outcome, maybe_handler as handler_outcome, maybe_pair as pair_outcome};
 ghost use Rattle.debug_readers.specs.Answers.{maybe_debug as debug_outcome, maybe_name as name_outcome};
-ghost use Rattle.code_item.specs.Answers.{cover_outcome};
 ghost use Rattle.answer_rows.specs.Words.{counts_words, debug_words, found_words, handler_words, number_words, option_word, option_words, outline_words, pair_words, row, told_if, try_words};
 
 use super::words;
@@ -15,20 +13,11 @@ use code_item::{HandlerOutline, NumberedTry, Outline};
 use debug_info::DebugOutline;
 use refusal::Refusal;
 
-fn catch_word(a: Option<u32>) -> u64
-    ensures { result ≡ option_word (catch_meant a) }
-{
-    match a {
-        Some(n) => n as u64,
-        None => 18446744073709551615,
-    }
-}
-
-fn name_word(n: Option<u32>) -> u64
-    ensures { result ≡ option_word (name_meant n) }
+fn option_word(n: Option<u32>) -> u64
+    ensures { result ≡ option_word (catch_meant n) }
 {
     match n {
-        Some(string) => string as u64,
+        Some(n) => n as u64,
         None => 18446744073709551615,
     }
 }
@@ -59,15 +48,6 @@ fn outline_row(o: Outline) -> [u64; 20]
         0,
         0,
     ]
-}
-
-fn covered(c: Option<u32>) -> [u64; 20]
-    ensures { result ≡ told_if number_words (answer (cover_meant c)) }
-{
-    match c {
-        None => words::absent(),
-        Some(n) => words::one(n),
-    }
 }
 
 pub fn data_row(a: Result<Option<Counts>, Refusal>) -> [u64; 20]
@@ -139,7 +119,7 @@ pub fn handler_row(a: Result<Option<HandlerOutline>, Refusal>) -> [u64; 20]
         Ok(Some(HandlerOutline { offset, pairs, all })) => words::four(
             offset as u64,
             pairs as u64,
-            catch_word(all),
+            option_word(all),
             0,
         ),
     }
@@ -180,15 +160,6 @@ pub fn name_row(a: Result<Option<Option<u32>>, Refusal>) -> [u64; 20]
     match a {
         Err(r) => words::refused(r),
         Ok(None) => words::absent(),
-        Ok(Some(n)) => words::four(name_word(n), 0, 0, 0),
-    }
-}
-
-pub fn cover_row(a: Result<Option<u32>, Refusal>) -> [u64; 20]
-    ensures { result ≡ told_if number_words (cover_outcome a) }
-{
-    match a {
-        Err(r) => words::refused(r),
-        Ok(c) => covered(c),
+        Ok(Some(n)) => words::four(option_word(n), 0, 0, 0),
     }
 }

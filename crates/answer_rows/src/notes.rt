@@ -2,10 +2,9 @@
 ghost use Rattle.std.specs.Prelude.{◌≡◌};
 ghost use Rattle.refusal.specs.Answers.{checked_outcome};
 ghost use Rattle.directory_readers.specs.Answers.{directory_outcome};
-ghost use Rattle.annotation_lists.specs.Answers.{word_outcome};
 ghost use Rattle.annotation_directories.specs.Answers.{directory_entry_outcome as place-outcome};
 ghost use Rattle.annotation_items.specs.Answers.{summary_outcome as annotation-outcome};
-ghost use Rattle.answer_rows.specs.Words.{annotation_words, directory_words, no_words, number_words, place_words, told, told_if};
+ghost use Rattle.answer_rows.specs.Words.{annotation_words, directory_words, no_words, place_words, told, told_if};
 
 use super::words;
 use annotation_directories::DirectoryEntry;
@@ -42,15 +41,6 @@ pub fn place_row(a: Result<DirectoryEntry, Refusal>) -> [u64; 20]
     match a {
         Err(r) => words::refused(r),
         Ok(DirectoryEntry { index, offset }) => words::four(index as u64, offset as u64, 0, 0),
-    }
-}
-
-pub fn word_row(a: Result<u32, Refusal>) -> [u64; 20]
-    ensures { result ≡ told number_words (word_outcome a) }
-{
-    match a {
-        Err(r) => words::refused(r),
-        Ok(n) => words::one(n),
     }
 }
 

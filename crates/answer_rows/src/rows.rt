@@ -1,18 +1,14 @@
 // One row for each kind of answer: word 0 says which it is, and what follows is in include/dralovika.h.
 ghost use Rattle.std.specs.Prelude.{◌≡◌};
-ghost use Rattle.table_readers.specs.Answers.{count_outcome};
+ghost use Rattle.refusal.specs.Answers.{as_given};
 ghost use Rattle.table_readers.specs.Answers.{entry_outcome};
 ghost use Rattle.ids.specs.Answers.{handle_outcome};
 ghost use Rattle.text.specs.Answers.{text_outcome};
-ghost use Rattle.ids.specs.Answers.{index_outcome};
 ghost use Rattle.ids.specs.Answers.{proto_outcome};
 ghost use Rattle.ids.specs.Answers.{member_id_outcome};
-ghost use Rattle.type_list.specs.Answers.{count_outcome as list_outcome};
-ghost use Rattle.type_list.specs.Answers.{type_outcome as listed-outcome};
 ghost use Rattle.access_flags.specs.Answers.{flags_outcome};
 ghost use Rattle.value_readers.specs.Answers.{array_outcome};
 ghost use Rattle.value_readers.specs.Answers.{body_outcome};
-ghost use Rattle.value_bodies.specs.Answers.{count_outcome as size-outcome};
 ghost use Rattle.value_bodies.specs.Answers.{picked_outcome};
 ghost use Rattle.value_bodies.specs.Answers.{element_outcome};
 ghost use Rattle.static_fields.specs.Answers.{maybe_field, maybe_wrong};
@@ -25,8 +21,9 @@ use text::TextPlace;
 use value_bodies::Element;
 use value_readers::{ArrayOutline, BodyOutline};
 
-pub fn count_row(a: Result<u32, Refusal>) -> [u64; 20]
-    ensures { result ≡ told number_words (count_outcome a) }
+// A number: how many there are, an index, a place.
+pub fn number_row(a: Result<u32, Refusal>) -> [u64; 20]
+    ensures { result ≡ told number_words (as_given a) }
 {
     match a {
         Err(r) => words::refused(r),
@@ -67,15 +64,6 @@ pub fn text_row(a: Result<TextPlace, Refusal>) -> [u64; 20]
     }
 }
 
-pub fn index_row(a: Result<u32, Refusal>) -> [u64; 20]
-    ensures { result ≡ told number_words (index_outcome a) }
-{
-    match a {
-        Err(r) => words::refused(r),
-        Ok(n) => words::one(n),
-    }
-}
-
 pub fn proto_row(a: Result<Proto, Refusal>) -> [u64; 20]
     ensures { result ≡ told proto_words (proto_outcome a) }
 {
@@ -96,24 +84,6 @@ pub fn member_row(a: Result<MemberId, Refusal>) -> [u64; 20]
     match a {
         Err(r) => words::refused(r),
         Ok(m) => words::four(m.class as u64, m.kind as u64, m.name as u64, 0),
-    }
-}
-
-pub fn list_row(a: Result<u32, Refusal>) -> [u64; 20]
-    ensures { result ≡ told number_words (list_outcome a) }
-{
-    match a {
-        Err(r) => words::refused(r),
-        Ok(n) => words::one(n),
-    }
-}
-
-pub fn listed_row(a: Result<u32, Refusal>) -> [u64; 20]
-    ensures { result ≡ told number_words (listed-outcome a) }
-{
-    match a {
-        Err(r) => words::refused(r),
-        Ok(t) => words::one(t),
     }
 }
 
@@ -147,15 +117,6 @@ pub fn body_row(a: Result<BodyOutline, Refusal>) -> [u64; 20]
                 length,
             },
         ) => words::four(type_index as u64, count as u64, length as u64, 0),
-    }
-}
-
-pub fn size_row(a: Result<u32, Refusal>) -> [u64; 20]
-    ensures { result ≡ told number_words (size-outcome a) }
-{
-    match a {
-        Err(r) => words::refused(r),
-        Ok(n) => words::one(n),
     }
 }
 

@@ -1,5 +1,5 @@
 // Answers as rows of twenty words.
-ghost use Rattle.std.specs.Prelude.{◌≡◌, cond, [], ◌∷◌};
+ghost use Rattle.std.specs.Prelude.{◌≡◌, [], ◌∷◌};
 ghost use Rattle.decoded_value.specs.Shown.{value_shown};
 ghost use Rattle.static_fields.specs.Answers.{as_field};
 ghost use Rattle.answer_rows.specs.Words.{row, refusal_row, bits_of, named_words, static_words};
@@ -58,38 +58,7 @@ pub fn four(w: u64, x: u64, y: u64, z: u64) -> [u64; 20]
 fn bits(z: i64) -> u64
     ensures { result ≡ bits_of z }
 {
-    if z < 0 {
-        let low = -1 - z;
-        return 18446744073709551615 - low as u64;
-    }
-    z as u64
-}
-
-fn byte_bits(z: i8) -> u64
-    ensures { result ≡ bits_of z }
-{
-    bits(z as i64)
-}
-
-fn short_bits(z: i16) -> u64
-    ensures { result ≡ bits_of z }
-{
-    bits(z as i64)
-}
-
-fn int_bits(z: i32) -> u64
-    ensures { result ≡ bits_of z }
-{
-    bits(z as i64)
-}
-
-fn truth_word(b: bool) -> u64
-    ensures { result ≡ cond b 1 0 }
-{
-    if b {
-        return 1;
-    }
-    0
+    z.cast_unsigned()
 }
 
 // A value, and behind it the name of the element that it is the value of.
@@ -97,10 +66,10 @@ pub fn value(v: Value, name: u32) -> [u64; 20]
     ensures { result ≡ row (0 ∷ named_words (value_shown v) name) }
 {
     match v {
-        Value::Byte(z) => four(0, byte_bits(z), 0, name as u64),
-        Value::Short(z) => four(2, short_bits(z), 0, name as u64),
+        Value::Byte(z) => four(0, bits(z as i64), 0, name as u64),
+        Value::Short(z) => four(2, bits(z as i64), 0, name as u64),
         Value::Char(n) => four(3, n as u64, 0, name as u64),
-        Value::Int(z) => four(4, int_bits(z), 0, name as u64),
+        Value::Int(z) => four(4, bits(z as i64), 0, name as u64),
         Value::Long(z) => four(6, bits(z), 0, name as u64),
         Value::Float { bits, value: _ } => four(16, bits as u64, 0, name as u64),
         Value::Double { bits, value: _ } => four(17, bits, 0, name as u64),
@@ -113,7 +82,7 @@ pub fn value(v: Value, name: u32) -> [u64; 20]
             name as u64,
         ),
         Value::Null => four(30, 0, 0, name as u64),
-        Value::Boolean(b) => four(31, truth_word(b), 0, name as u64),
+        Value::Boolean(b) => four(31, b as u64, 0, name as u64),
     }
 }
 
@@ -123,6 +92,6 @@ pub fn paired(v: Value, field: u32, flags: u32, stored: bool) -> [u64; 20]
 {
     let mut row = value(v, field);
     row[5] = flags as u64;
-    row[6] = truth_word(stored);
+    row[6] = stored as u64;
     row
 }

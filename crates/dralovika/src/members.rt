@@ -87,7 +87,7 @@ pub extern "C" fn dralovika_covering_try(
 )
     ensures { out.new ≡ told_if number_words (covering_try f.now c list k address) }
 {
-    *out = answer_rows::cover_row(dex::covering_try(f, c, list, k, address));
+    *out = answer_rows::number_if_row(dex::covering_try(f, c, list, k, address));
 }
 
 #[unsafe(no_mangle)]

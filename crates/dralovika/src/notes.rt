@@ -39,21 +39,21 @@ pub extern "C" fn dralovika_parameter_entry(f: &[u8], c: u32, e: u32, out: &mut 
 pub extern "C" fn dralovika_class_annotation_count(f: &[u8], c: u32, out: &mut [u64; 20])
     ensures { out.new ≡ told number_words (annotation_count f.now (class_set f.now c)) }
 {
-    *out = answer_rows::word_row(dex::class_annotation_count(f, c));
+    *out = answer_rows::number_row(dex::class_annotation_count(f, c));
 }
 
 #[unsafe(no_mangle)]
 pub extern "C" fn dralovika_class_annotation_place(f: &[u8], c: u32, k: u32, out: &mut [u64; 20])
     ensures { out.new ≡ told number_words (annotation_place f.now (class_set f.now c) k) }
 {
-    *out = answer_rows::word_row(dex::class_annotation_place(f, c, k));
+    *out = answer_rows::number_row(dex::class_annotation_place(f, c, k));
 }
 
 #[unsafe(no_mangle)]
 pub extern "C" fn dralovika_field_annotation_count(f: &[u8], c: u32, e: u32, out: &mut [u64; 20])
     ensures { out.new ≡ told number_words (annotation_count f.now (entry_set f.now c 0 e)) }
 {
-    *out = answer_rows::word_row(dex::field_annotation_count(f, c, e));
+    *out = answer_rows::number_row(dex::field_annotation_count(f, c, e));
 }
 
 #[unsafe(no_mangle)]
@@ -66,14 +66,14 @@ pub extern "C" fn dralovika_field_annotation_place(
 )
     ensures { out.new ≡ told number_words (annotation_place f.now (entry_set f.now c 0 e) k) }
 {
-    *out = answer_rows::word_row(dex::field_annotation_place(f, c, e, k));
+    *out = answer_rows::number_row(dex::field_annotation_place(f, c, e, k));
 }
 
 #[unsafe(no_mangle)]
 pub extern "C" fn dralovika_method_annotation_count(f: &[u8], c: u32, e: u32, out: &mut [u64; 20])
     ensures { out.new ≡ told number_words (annotation_count f.now (entry_set f.now c 1 e)) }
 {
-    *out = answer_rows::word_row(dex::method_annotation_count(f, c, e));
+    *out = answer_rows::number_row(dex::method_annotation_count(f, c, e));
 }
 
 #[unsafe(no_mangle)]
@@ -86,7 +86,7 @@ pub extern "C" fn dralovika_method_annotation_place(
 )
     ensures { out.new ≡ told number_words (annotation_place f.now (entry_set f.now c 1 e) k) }
 {
-    *out = answer_rows::word_row(dex::method_annotation_place(f, c, e, k));
+    *out = answer_rows::number_row(dex::method_annotation_place(f, c, e, k));
 }
 
 // How many parameters entry e has sets for, absent ones too.
@@ -94,7 +94,7 @@ pub extern "C" fn dralovika_method_annotation_place(
 pub extern "C" fn dralovika_parameter_set_count(f: &[u8], c: u32, e: u32, out: &mut [u64; 20])
     ensures { out.new ≡ told number_words (parameter_set_count f.now c e) }
 {
-    *out = answer_rows::word_row(dex::parameter_set_count(f, c, e));
+    *out = answer_rows::number_row(dex::parameter_set_count(f, c, e));
 }
 
 #[unsafe(no_mangle)]
@@ -107,7 +107,7 @@ pub extern "C" fn dralovika_parameter_annotation_count(
 )
     ensures { out.new ≡ told number_words (annotation_count f.now (parameter_set f.now c e p)) }
 {
-    *out = answer_rows::word_row(dex::parameter_annotation_count(f, c, e, p));
+    *out = answer_rows::number_row(dex::parameter_annotation_count(f, c, e, p));
 }
 
 #[unsafe(no_mangle)]
@@ -121,7 +121,7 @@ pub extern "C" fn dralovika_parameter_annotation_place(
 )
     ensures { out.new ≡ told number_words (annotation_place f.now (parameter_set f.now c e p) k) }
 {
-    *out = answer_rows::word_row(dex::parameter_annotation_place(f, c, e, p, k));
+    *out = answer_rows::number_row(dex::parameter_annotation_place(f, c, e, p, k));
 }
 
 // The annotation item at a place.

@@ -29,7 +29,7 @@ pub extern "C" fn dralovika_signature(f: &[u8], out: &mut [u64; 20])
 pub extern "C" fn dralovika_map_count(f: &[u8], out: &mut [u64; 20])
     ensures { out.new ≡ told number_words (map_count f.now) }
 {
-    *out = answer_rows::count_row(dex::map_count(f));
+    *out = answer_rows::number_row(dex::map_count(f));
 }
 
 // Entry k of the map.
@@ -44,7 +44,7 @@ pub extern "C" fn dralovika_map_entry(f: &[u8], k: u32, out: &mut [u64; 20])
 pub extern "C" fn dralovika_handle_count(f: &[u8], out: &mut [u64; 20])
     ensures { out.new ≡ told number_words (handle_count f.now) }
 {
-    *out = answer_rows::count_row(dex::handle_count(f));
+    *out = answer_rows::number_row(dex::handle_count(f));
 }
 
 #[unsafe(no_mangle)]
@@ -67,7 +67,7 @@ pub extern "C" fn dralovika_string(f: &[u8], n: u32, out: &mut [u64; 20])
 pub extern "C" fn dralovika_find_string(f: &[u8], text: &[u8], out: &mut [u64; 20])
     ensures { out.new ≡ told_if number_words (find_string f.now text.now) }
 {
-    *out = answer_rows::lookup_row(dex::find_string(f, text));
+    *out = answer_rows::number_if_row(dex::find_string(f, text));
 }
 
 // The string of type n.
@@ -75,7 +75,7 @@ pub extern "C" fn dralovika_find_string(f: &[u8], text: &[u8], out: &mut [u64; 2
 pub extern "C" fn dralovika_type_name(f: &[u8], n: u32, out: &mut [u64; 20])
     ensures { out.new ≡ told number_words (type_name f.now n) }
 {
-    *out = answer_rows::index_row(dex::type_name(f, n));
+    *out = answer_rows::number_row(dex::type_name(f, n));
 }
 
 #[unsafe(no_mangle)]
@@ -89,7 +89,7 @@ pub extern "C" fn dralovika_proto(f: &[u8], n: u32, out: &mut [u64; 20])
 pub extern "C" fn dralovika_parameter_count(f: &[u8], n: u32, out: &mut [u64; 20])
     ensures { out.new ≡ told number_words (parameter_count f.now n) }
 {
-    *out = answer_rows::list_row(dex::parameter_count(f, n));
+    *out = answer_rows::number_row(dex::parameter_count(f, n));
 }
 
 // The type of parameter k of proto n.
@@ -97,7 +97,7 @@ pub extern "C" fn dralovika_parameter_count(f: &[u8], n: u32, out: &mut [u64; 20
 pub extern "C" fn dralovika_parameter(f: &[u8], n: u32, k: u32, out: &mut [u64; 20])
     ensures { out.new ≡ told number_words (parameter f.now n k) }
 {
-    *out = answer_rows::listed_row(dex::parameter(f, n, k));
+    *out = answer_rows::number_row(dex::parameter(f, n, k));
 }
 
 #[unsafe(no_mangle)]
@@ -125,7 +125,7 @@ pub extern "C" fn dralovika_class(f: &[u8], n: u32, out: &mut [u64; 20])
 pub extern "C" fn dralovika_interface_count(f: &[u8], n: u32, out: &mut [u64; 20])
     ensures { out.new ≡ told number_words (interface_count f.now n) }
 {
-    *out = answer_rows::list_row(dex::interface_count(f, n));
+    *out = answer_rows::number_row(dex::interface_count(f, n));
 }
 
 // The type of interface k of class n.
@@ -133,7 +133,7 @@ pub extern "C" fn dralovika_interface_count(f: &[u8], n: u32, out: &mut [u64; 20
 pub extern "C" fn dralovika_interface(f: &[u8], n: u32, k: u32, out: &mut [u64; 20])
     ensures { out.new ≡ told number_words (interface f.now n k) }
 {
-    *out = answer_rows::listed_row(dex::interface(f, n, k));
+    *out = answer_rows::number_row(dex::interface(f, n, k));
 }
 
 // The flags of class n as bit numbers in a second output, and how many.

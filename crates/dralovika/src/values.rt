@@ -45,7 +45,7 @@ pub extern "C" fn dralovika_annotation_body_element(
 pub extern "C" fn dralovika_static_value_count(f: &[u8], c: u32, out: &mut [u64; 20])
     ensures { out.new ≡ told number_words (static_count f.now c) }
 {
-    *out = answer_rows::size_row(dex::static_value_count(f, c));
+    *out = answer_rows::number_row(dex::static_value_count(f, c));
 }
 
 #[unsafe(no_mangle)]

@@ -47,6 +47,6 @@ pub(crate) fn handler_row(
     match kind {
         22 => answer_rows::handler_row(code_item::handler_at(s, frame, item, b).map(Some)),
         23 => answer_rows::pair_row(code_item::pair_at(s, frame, item, b, c).map(Some)),
-        _ => answer_rows::cover_row(code_item::covering_try(s, frame, item, b)),
+        _ => answer_rows::number_if_row(code_item::covering_try(s, frame, item, b)),
     }
 }

@@ -3,7 +3,7 @@ use frame::Frame;
 
 pub(crate) fn row(s: &[u8], kind: u8, frame: Frame, item: usize, k: u32) -> [u64; 20] {
     match kind {
-        32 => answer_rows::word_row(annotation_items::annotation_item(s, frame, item).map(
+        32 => answer_rows::number_row(annotation_items::annotation_item(s, frame, item).map(
             |v| v as u32,
         )),
         33 => answer_rows::annotation_row(annotation_items::annotation(s, frame, item)),
@@ -13,10 +13,10 @@ pub(crate) fn row(s: &[u8], kind: u8, frame: Frame, item: usize, k: u32) -> [u64
 
 pub(crate) fn list_row(s: &[u8], kind: u8, frame: Frame, item: usize, k: u32) -> [u64; 20] {
     match kind {
-        35 => answer_rows::word_row(annotation_lists::set_count(s, frame, item)),
-        36 => answer_rows::word_row(annotation_lists::set_offset(s, frame, item, k)),
-        37 => answer_rows::word_row(annotation_lists::reference_count(s, frame, item)),
-        _ => answer_rows::word_row(annotation_lists::reference_offset(s, frame, item, k)),
+        35 => answer_rows::number_row(annotation_lists::set_count(s, frame, item)),
+        36 => answer_rows::number_row(annotation_lists::set_offset(s, frame, item, k)),
+        37 => answer_rows::number_row(annotation_lists::reference_count(s, frame, item)),
+        _ => answer_rows::number_row(annotation_lists::reference_offset(s, frame, item, k)),
     }
 }
 

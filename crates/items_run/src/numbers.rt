@@ -9,7 +9,7 @@ pub(crate) fn four(a: u64, b: u64, c: u64, d: u64) -> [u64; 20] {
 }
 
 pub(crate) fn refused(r: Refusal) -> [u64; 20] {
-    answer_rows::size_row(Err(r))
+    answer_rows::number_row(Err(r))
 }
 
 fn unsigned(s: &[u8], at: usize, item: usize) -> [u64; 20] {

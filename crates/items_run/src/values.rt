@@ -86,7 +86,7 @@ pub(crate) fn row(s: &[u8], kind: u8, w: Walk, at: usize, k: u32) -> [u64; 20] {
     match kind {
         8 => decoded(s, w, at, k),
         9 => gone_over(s, w, at, k),
-        10 => answer_rows::size_row(value_bodies::array_count(s, w, at)),
+        10 => answer_rows::number_row(value_bodies::array_count(s, w, at)),
         11 => answer_rows::picked_row(value_bodies::array_value(s, w, at, k)),
         12 => head(s, w, at),
         _ => answer_rows::element_row(value_bodies::annotation_element(s, w, at, k)),

@@ -5,7 +5,7 @@ pub(crate) fn row(f: &[u8], q: Question) -> [u64; 20] {
     match q.reader {
         24 => answer_rows::code_row(dex::code(f, q.a, q.b, q.c)),
         25 => answer_rows::try_row(dex::try_item(f, q.a, q.b, q.c, q.d)),
-        26 => answer_rows::cover_row(dex::covering_try(f, q.a, q.b, q.c, q.d)),
+        26 => answer_rows::number_if_row(dex::covering_try(f, q.a, q.b, q.c, q.d)),
         _ => answer_rows::written_row(dex::handler_count(f, q.a, q.b, q.c)),
     }
 }

@@ -8,9 +8,9 @@ pub(crate) fn row(f: &[u8], reader: u8) -> [u64; 20] {
 
 pub(crate) fn map_row(f: &[u8], reader: u8, a: u32) -> [u64; 20] {
     match reader {
-        2 => answer_rows::count_row(dex::map_count(f)),
+        2 => answer_rows::number_row(dex::map_count(f)),
         3 => answer_rows::entry_row(dex::map_entry(f, a)),
-        4 => answer_rows::count_row(dex::handle_count(f)),
+        4 => answer_rows::number_row(dex::handle_count(f)),
         _ => answer_rows::handle_row(dex::handle(f, a)),
     }
 }

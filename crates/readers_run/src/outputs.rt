@@ -12,7 +12,7 @@ pub(crate) fn part(f: &[u8], q: Question) {
 }
 
 pub(crate) fn sought(f: &[u8], text: &[u8], mask: u32) {
-    asking::write_words(answer_rows::lookup_row(dex::find_string(f, text)), mask);
+    asking::write_words(answer_rows::number_if_row(dex::find_string(f, text)), mask);
 }
 
 // Of an output as much is lent as number d says, then all of it is written.

@@ -1,4 +1,4 @@
-use Rattle.answer_rows.proofs.MemberLaws.{arms as laws}
+use Rattle.answer_rows.proofs.Laws.{heads as laws}
 use Rattle.answer_rows.specs.Words.{outline_words}
 use Rattle.answer_rows.proofs.members.outline_row.Goals as goal
 
