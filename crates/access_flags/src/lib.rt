@@ -8,7 +8,7 @@ ghost use Rattle.access_flags.specs.Answers.{flags_outcome};
 use refusal::Refusal;
 
 // Bit numbers 0 to 17: `flag_bits` in the definitions.
-const FLAG_BITS: u32 = 18;
+const FLAG_BITS: u8 = 18;
 
 // Is bit i, the lowest of v, handed out: of classes bits 6 and 7 are not.
 fn is_kept(class: bool, i: u8, v: u32) -> bool
@@ -31,20 +31,12 @@ fn count_of(value: u32, class: bool) -> usize
     ensures { result ≡ length (flags class value) }
 {
     let mut n: usize = 0;
-    let mut i: u8 = 0;
     let mut v = value;
-    let mut left: u32 = FLAG_BITS;
-    while 0 < left {
+    for i in 0..FLAG_BITS {
         if is_kept(class, i, v) {
             n += 1;
-            i += 1;
-            v /= 2;
-            left -= 1;
-            continue;
         }
-        i += 1;
         v /= 2;
-        left -= 1;
     }
     n
 }
@@ -55,21 +47,13 @@ fn fill(value: u32, class: bool, out: &mut [u8])
     ensures { out.new ≡ filled (flags class value) out.old }
 {
     let mut p: usize = 0;
-    let mut i: u8 = 0;
     let mut v = value;
-    let mut left: u32 = FLAG_BITS;
-    while 0 < left {
+    for i in 0..FLAG_BITS {
         if is_kept(class, i, v) {
             out[p] = i;
             p += 1;
-            i += 1;
-            v /= 2;
-            left -= 1;
-            continue;
         }
-        i += 1;
         v /= 2;
-        left -= 1;
     }
 }
 

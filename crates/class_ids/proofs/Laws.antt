@@ -2,23 +2,20 @@
 -- Assumes nothing.
 use Prim.Native.Nat.{ℕ, ◌+◌, ◌*◌}
 use mathlib.Core.Path.{◌≡◌, ap, ◌∙◌}
-use mathlib.Core.Bool.{Bool, true}
+use mathlib.Core.Bool.{true}
 use mathlib.Core.List.{List}
 use lib.Dec.{ltb}
 use borrow.Author.Rules.{rules}
 use borrow.Author.Tests.{eq-eqb, ne_eqb}
-use Rattle.refusal.specs.Outcome.{Outcome, answer, ◌>>=◌}
-use Rattle.refusal.proofs.Laws.{said, tests, calls}
+use Rattle.refusal.specs.Outcome.{Outcome}
+use Rattle.refusal.proofs.Laws.{tests, calls}
 use Rattle.word.specs.Words.{u32_at}
 use Rattle.word.specs.declared.Endian.{Endian}
 use Rattle.frame.specs.declared.Frame.{Frame}
-use Rattle.class_ids.specs.declared.Maybe.{Maybe}
-use Rattle.class_ids.specs.declared.Maybe.TheVariants.{Number, Absent}
+use Rattle.std.specs.Prelude.{Option, Some, None}
 use Rattle.class_ids.specs.declared.Class.{Class}
 use Rattle.class_ids.specs.declared.ClassWords.{ClassWords}
-use Rattle.class_ids.specs.declared.ClassAnswer.{ClassAnswer}
 use Rattle.class_ids.specs.Classes.{index_or_none, maybe_of, words_at, class_of, first_of, class_at}
-use Rattle.class_ids.specs.Answers.{class_outcome}
 
 module _ (v : ℕ) where
   pub none_allowed : (count : ℕ) → v ≡ 0xffffffff → true ≡ index_or_none v count
@@ -29,11 +26,11 @@ module _ (v : ℕ) where
   unfolding index_or_none
   index_allowed count e = rw (ne_eqb v 0xffffffff e)
 
-  pub maybe_none : v ≡ 0xffffffff → Absent ≡ maybe_of v
+  pub maybe_none : v ≡ 0xffffffff → None ≡ maybe_of v
   unfolding maybe_of
   maybe_none e = rw (eq-eqb v 0xffffffff e)
 
-  pub maybe_some : (v ≡ 0xffffffff → ⊥) → Number v ≡ maybe_of v
+  pub maybe_some : (v ≡ 0xffffffff → ⊥) → Some v ≡ maybe_of v
   unfolding maybe_of
   maybe_some e = rw (ne_eqb v 0xffffffff e)
 
@@ -43,7 +40,7 @@ pub words_by : (f : List ℕ) (o : Endian) (offset n : ℕ) {a b c d e g h k : �
     → record { class = a; flags = b; superclass = c; interfaces = d; source = e; directory = g; «data» = h; values = k } ≡ words_at f o offset n
 words_by f o offset n p q r s t u v w = λ i. record { class = p i; flags = q i; superclass = r i; interfaces = s i; source = t i; directory = u i; «data» = v i; values = w i }
 
-pub class_by : (w : ClassWords) {a b : Maybe} → a ≡ maybe_of w.superclass → b ≡ maybe_of w.source
+pub class_by : (w : ClassWords) {a b : Option ℕ} → a ≡ maybe_of w.superclass → b ≡ maybe_of w.source
     → record { class = w.class; flags = w.flags; superclass = a; interfaces = w.interfaces; source = b; directory = w.directory; «data» = w.«data»; values = w.values } ≡ class_of w
 class_by w p q = λ i. record { class = w.class; flags = w.flags; superclass = p i; interfaces = w.interfaces; source = q i; directory = w.directory; «data» = w.«data»; values = w.values }
 
@@ -51,9 +48,4 @@ pub at_by : (f : List ℕ) (r : Frame) (end offset n : ℕ) {w : ClassWords} {y 
 unfolding class_at
 at_by f r end offset n e h = h ∙ ap (first_of r end (offset + 32 * n)) e
 
-pub on_class : {B : Type 0} {x c : ClassAnswer} {o : Outcome Class} {y : Outcome B} (k : Class → Outcome B) → class_outcome x ≡ o → x ≡ c → y ≡ (class_outcome c >>= k) → y ≡ (o >>= k)
-on_class = said class_outcome
-
 pub ruleset own_laws = (none_allowed, index_allowed, maybe_none, maybe_some, words_by, class_by, at_by, calls, tests, rules)
-
-pub ruleset laws = (on_class)

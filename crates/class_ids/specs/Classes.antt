@@ -1,13 +1,11 @@
 -- The records of classes as readings: own rules in stored order, at the record.
-use Rattle.std.specs.Prelude.{ℕ, ◌+◌, ◌*◌, Bool, true, false, cond, ◌||◌, List, ltb, eqb}
+use Rattle.std.specs.Prelude.{ℕ, ◌+◌, ◌*◌, Bool, true, false, cond, ◌||◌, Option, Some, None, List, ltb, eqb}
 use Rattle.refusal.specs.Refusals.{wrong_index, wrong_offset}
 use Rattle.refusal.specs.Outcome.{Outcome, answer, given}
 use Rattle.word.specs.Words.{u32_at}
 use Rattle.word.specs.declared.Endian.{Endian}
 use Rattle.frame.specs.declared.Frame.{Frame}
 use Rattle.frame.specs.Offsets.{allowed_or_absent}
-use Rattle.class_ids.specs.declared.Maybe.{Maybe}
-use Rattle.class_ids.specs.declared.Maybe.TheVariants.{Number, Absent}
 use Rattle.class_ids.specs.declared.Class.{Class}
 use Rattle.class_ids.specs.declared.ClassWords.{ClassWords}
 
@@ -15,8 +13,8 @@ use Rattle.class_ids.specs.declared.ClassWords.{ClassWords}
 unfoldable pub index_or_none : ℕ → ℕ → Bool
 index_or_none v count = eqb v 0xffffffff || ltb v count
 
-unfoldable pub maybe_of : ℕ → Maybe
-maybe_of v = cond (eqb v 0xffffffff) Absent (Number v)
+unfoldable pub maybe_of : ℕ → Option ℕ
+maybe_of v = cond (eqb v 0xffffffff) None (Some v)
 
 abbrev pub words_at : List ℕ → Endian → ℕ → ℕ → ClassWords
 words_at f o offset n = record {

@@ -45,6 +45,7 @@ fn is_index_or_none(v: u32, count: u32) -> bool
     v < count
 }
 
+// An index, or none: 0xFFFFFFFF means none.
 fn maybe_of(v: u32) -> Option<u32>
     ensures { result ≡ maybe_of v }
 {
@@ -132,11 +133,10 @@ fn first_of(frame: Frame, end: usize, place: usize, w: ClassWords) -> Result<Cla
 pub fn class_at(f: &[u8], frame: Frame, end: usize, offset: u32, n: u32) -> Result<Class, Refusal>
     ensures { class_outcome result ≡ class_at f.now frame end offset n }
 {
-    let order = frame.order;
     first_of(
         frame,
         end,
         offset as usize + 32 * n as usize,
-        words_at(f, order, offset, n),
+        words_at(f, frame.order, offset, n),
     )
 }

@@ -10,60 +10,38 @@ use lib.Dec.{ltb}
 use borrow.Author.Rules.{rules}
 use borrow.Author.Tests.{lt-ltb, le-ltb, le-leb, lt-leb}
 use native.Mathlib.Omega.{arith}
-use mir.Syntax.{w32}
-use mir.Val.{Fits}
 use Rattle.refusal.specs.Refusals.{runs_past, wrong_index}
 use Rattle.refusal.specs.declared.Refusal.{Refusal}
 use Rattle.refusal.specs.Outcome.{Outcome, answer, refused, ◌>>=◌, present, accepted}
 use Rattle.refusal.specs.Rows.{every}
-use Rattle.refusal.proofs.Laws.{said, tests, calls, passes, fails, picks, leaves, bind_answer, bind_refused}
+use Rattle.refusal.proofs.Laws.{tests, calls, passes, fails, picks, leaves, bind_answer, bind_refused}
 use Rattle.refusal.proofs.Kept.{made_kept, present_kept, absent_kept}
 use Rattle.refusal.proofs.Loops.{Numbers, numbers_first, numbers_next, numbers_stop, numbers_done}
 use Rattle.word.specs.Words.{u32_at}
 use Rattle.word.proofs.Laws.{u16_past}
 use Rattle.type_list.specs.declared.TypeListJudge.{TypeListJudge}
-use Rattle.refusal.specs.declared.CheckAnswer.{CheckAnswer}
-use Rattle.refusal.specs.Answers.{checked_outcome}
 use Rattle.header.specs.declared.Header.{Header}
 use Rattle.header.specs.Header.{up_to_end}
-use Rattle.type_list.specs.declared.TypeCountAnswer.{TypeCountAnswer}
-use Rattle.type_list.specs.declared.TypeAnswer.{TypeAnswer}
 use Rattle.type_list.specs.TypeList.{entry_number, entry_at, list_of, list_at, counted, count_at, all_at}
-use Rattle.type_list.specs.Answers.{count_outcome, type_outcome}
 use Rattle.type_list.specs.Below.{list_judge, types_below, list_count}
 use Rattle.type_list.proofs.Exactly.{counted as counts}
 
 pub entry_past : (s : List ℕ) (j : TypeListJudge) (k : ℕ) → length s ≤ j.at → 0 ≡ entry_number s j k
 entry_past s j k h = u16_past j.order s (j.at + 4 + 2 * k) (omega arith)
 
--- ---- the loop of `all` at its head: entry k is next
-pub record Going (s : List ℕ) (j : TypeListJudge) (count left k : ℕ) : Type 0 where
-  numbers : Numbers (entry_at s j) count left k
-  sum : k + left ≡ count
-  fits : Fits w32 count
-
-pub going_first : (s : List ℕ) (j : TypeListJudge) (count : ℕ) → Fits w32 count → Going s j count count 0
-going_first s j count fits = record { numbers = numbers_first (entry_at s j) count; sum = omega arith; fits = fits }
-
-module _ {s : List ℕ} {j : TypeListJudge} {count left k : ℕ} (h : Going s j count left k) where
-  pub going_fits : 0 < left → Fits w32 (k + 1)
-  going_fits l = let z = h.sum in let y = h.fits.fits in record { fits = omega arith }
-
-  pub going_next : {t : ℕ} → 0 < left → t ≡ entry_number s j k → t < j.types → Going s j count (left - 1) (k + 1)
+-- ---- the loop of `all`: entry k is next
+module _ (s : List ℕ) (j : TypeListJudge) {count k : ℕ} (h : Numbers (entry_at s j) count k) where
+  pub going_next : {t : ℕ} → k < count → t ≡ entry_number s j k → t < j.types → Numbers (entry_at s j) count (k + 1)
   unfolding entry_at
-  going_next l e p = record {
-    numbers = numbers_next h.numbers l (passes (wrong_index j.at) (lt-ltb (entry_number s j k) j.types (let z = e in omega arith)) refl);
-    sum = let z = h.sum in omega arith;
-    fits = h.fits;
-  }
+  going_next l e p = numbers_next h l (passes (wrong_index j.at) (lt-ltb (entry_number s j k) j.types (let z = e in omega arith)) refl)
 
-  pub going_stop : {t : ℕ} {r : Refusal} → 0 < left → t ≡ entry_number s j k → j.types ≤ t → r ≡ wrong_index j.at → refused r ≡ all_at s j count
+  pub going_stop : {t : ℕ} {r : Refusal} → k < count → t ≡ entry_number s j k → j.types ≤ t → r ≡ wrong_index j.at → refused r ≡ all_at s j count
   unfolding all_at entry_at
-  going_stop l e p made = numbers_stop h.numbers accepted l (fails _ made (le-ltb (entry_number s j k) j.types (let z = e in omega arith)))
+  going_stop l e p made = numbers_stop h accepted l (fails _ made (le-ltb (entry_number s j k) j.types (let z = e in omega arith)))
 
-  pub going_done : left ≤ 0 → answer tt ≡ all_at s j count
+  pub going_done : count ≤ k → answer tt ≡ all_at s j count
   unfolding all_at
-  going_done l = numbers_done h.numbers l
+  going_done l = numbers_done h l
 
 -- ---- the stages of the list
 module _ (s : List ℕ) (j : TypeListJudge) where
@@ -95,14 +73,11 @@ module _ (s : List ℕ) (j : TypeListJudge) where
           go (answer l) e = ap answer (counts s j count l e)
           go (refused x) e = refl
 
-      pub list_by : {x c : CheckAnswer} {y : Outcome ℕ} → checked_outcome x ≡ all_at s j count → x ≡ c → y ≡ (checked_outcome c >>= λ (u : Unit). answer count) → y ≡ count_at s j
-      list_by e m g = said checked_outcome _ e m g ∙ sym entries
+      pub list_got : {u : Unit} → answer u ≡ all_at s j count → answer count ≡ count_at s j
+      list_got e = sym (entries ∙ bind_answer _ (sym e))
 
-pub on_count : {B : Type 0} {x c : TypeCountAnswer} {o : Outcome ℕ} {y : Outcome B} (k : ℕ → Outcome B) → count_outcome x ≡ o → x ≡ c → y ≡ (count_outcome c >>= k) → y ≡ (o >>= k)
-on_count = said count_outcome
-
-pub on_type : {B : Type 0} {x c : TypeAnswer} {o : Outcome ℕ} {y : Outcome B} (k : ℕ → Outcome B) → type_outcome x ≡ o → x ≡ c → y ≡ (type_outcome c >>= k) → y ≡ (o >>= k)
-on_type = said type_outcome
+      pub list_refused : {r : Refusal} → refused r ≡ all_at s j count → refused r ≡ count_at s j
+      list_refused e = sym (entries ∙ bind_refused _ (sym e))
 
 -- a list that was read in the file up to the data section's end, s
 module _ (f : List ℕ) (h : Header) (j : TypeListJudge) {s : List ℕ} {y : Outcome ℕ} where
@@ -125,10 +100,8 @@ types_by f h at e = e ∙ go (or_zero at)
         ∙ present_kept (list_at (up_to_end f h) (list_judge h at)) p refl
     go (inr p) = ap (λ (o : Outcome ℕ). o >>= accepted) (sym (leaves (count_at (up_to_end f h) (list_judge h at)) (le-ltb 0 at p) refl)) ∙ bind_answer accepted refl ∙ absent_kept (list_at (up_to_end f h) (list_judge h at)) p
 
-pub ruleset going = (entry_past, going_first, going_fits, going_next, going_stop, going_done, rules)
+pub ruleset going = (entry_past, numbers_first, going_next, going_stop, going_done, rules)
 
-pub ruleset list_laws = (list_low, list_short, list_long, list_by, on_count, calls, tests, rules)
+pub ruleset list_laws = (list_low, list_short, list_long, list_got, list_refused, calls, tests, rules)
 
-pub ruleset below_laws = (count_in, types_by, on_count, calls, tests, rules)
-
-pub ruleset laws = (on_count, on_type)
+pub ruleset below_laws = (count_in, types_by, calls, tests, rules)

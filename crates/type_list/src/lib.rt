@@ -23,12 +23,10 @@ pub struct TypeListJudge {
 fn entry_number(s: &[u8], j: TypeListJudge, k: u32) -> u32
     ensures { result ≡ entry_number s.now j k }
 {
-    let order = j.order;
-    let at = j.at;
-    if s.len() <= at {
+    if s.len() <= j.at {
         return 0;
     }
-    word::u16_at(s, at + 4 + 2 * k as usize, order) as u32
+    word::u16_at(s, j.at + 4 + 2 * k as usize, j.order) as u32
 }
 
 // All entries in turn.
@@ -48,17 +46,15 @@ fn all(s: &[u8], j: TypeListJudge, count: u32) -> Result<(), Refusal>
 fn count_at(s: &[u8], j: TypeListJudge) -> Result<u32, Refusal>
     ensures { count_outcome result ≡ count_at s.now j }
 {
-    let order = j.order;
-    let at = j.at;
-    if s.len() < at {
-        return Err(refusal::runs_past(at));
+    if s.len() < j.at {
+        return Err(refusal::runs_past(j.at));
     }
-    if s.len() - at < 4 {
-        return Err(refusal::runs_past(at));
+    if s.len() - j.at < 4 {
+        return Err(refusal::runs_past(j.at));
     }
-    let count = word::u32_at(s, at, order);
-    if s.len() - at - 4 < 2 * count as usize {
-        return Err(refusal::runs_past(at));
+    let count = word::u32_at(s, j.at, j.order);
+    if s.len() - j.at - 4 < 2 * count as usize {
+        return Err(refusal::runs_past(j.at));
     }
     all(s, j, count)?;
     Ok(count)
@@ -79,14 +75,12 @@ pub fn type_at(s: &[u8], j: TypeListJudge, k: u32) -> Result<u32, Refusal>
 pub fn list_count(f: &[u8], header: Header, at: u32) -> Result<u32, Refusal>
     ensures { count_outcome result ≡ list_count f.now header at }
 {
-    let order = header.order;
-    let types = header.types;
     if 0 < at {
         return count_at(
             header::up_to_end(f, header),
             TypeListJudge {
-                order,
-                types: types.count,
+                order: header.order,
+                types: header.types.count,
                 at: at as usize,
             },
         );

@@ -1,8 +1,6 @@
-use Rattle.type_list.proofs.Laws.{Going}
+use Rattle.refusal.proofs.Loops.{Numbers}
+use Rattle.type_list.specs.TypeList.{entry_at}
 use Rattle.type_list.proofs.all.Given as goal
 
-abbrev pub invariant-loop-left : goal.invariant-loop-left
-invariant-loop-left l = Going l.s l.j l.count l.left l.k
-
-abbrev pub decreases-loop-left : goal.decreases-loop-left
-decreases-loop-left l = l.left
+abbrev pub invariant-loop-k : goal.invariant-loop-k
+invariant-loop-k l = Numbers (entry_at l.s l.j) l.count l.k

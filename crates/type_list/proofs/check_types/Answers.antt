@@ -1,8 +1,8 @@
 use Rattle.type_list.proofs.Laws.{below_laws as laws}
 use Rattle.type_list.proofs.check_types.Goals as goal
 
-pub returns-in-Refused : goal.returns-in-Refused
-returns-in-Refused c = search laws
+pub returns-in_err-list_count : goal.returns-in_err-list_count
+returns-in_err-list_count c = search laws
 
-pub returns-in-Got : goal.returns-in-Got
-returns-in-Got c = search laws
+pub returns : goal.returns
+returns c = search laws

@@ -6,10 +6,10 @@ pub returns-then-k-count : goal.returns-then-k-count
 unfolding number_at
 returns-then-k-count c = search laws
 
-pub returns-in-Refused : goal.returns-in-Refused
+pub returns-in_err-count : goal.returns-in_err-count
 unfolding number_at
-returns-in-Refused c = search laws
+returns-in_err-count c = search laws
 
-pub returns-else-k-count : goal.returns-else-k-count
+pub returns : goal.returns
 unfolding number_at
-returns-else-k-count c = search laws
+returns c = search laws
