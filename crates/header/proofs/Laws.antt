@@ -1,10 +1,10 @@
 -- What the functions' proofs cite, and what later crates know of a header: its tables and its data section lie within the file.
 -- Assumes nothing.
-use Prim.Native.Nat.{ℕ, ◌+◌, ◌-◌, ◌*◌, ◌%◌, ◌^◌, ◌≤◌, ◌<◌}
-use mathlib.Core.Path.{◌≡◌, ap, sym}
+use Prim.Native.Nat.{ℕ, ◌+◌, ◌*◌, ◌%◌, ◌^◌, ◌≤◌, ◌<◌}
+use mathlib.Core.Path.{◌≡◌, refl, sym}
 use mathlib.Core.Bool.{Bool, false}
 use mathlib.Core.List.{List}
-use lib.ListN.{length, get_or, take, drop}
+use lib.ListN.{length, get_or, take}
 use lib.Seq.{take_all}
 use lib.Dec.{leb, eqb}
 use borrow.Author.Rules.{rules}
@@ -16,7 +16,7 @@ use mir.Val.{Fits}
 use Rattle.refusal.specs.Refusals.{wrong_magic}
 use Rattle.refusal.specs.declared.Refusal.{Refusal}
 use Rattle.refusal.specs.Outcome.{Outcome, refused, ◌>>=◌}
-use Rattle.refusal.proofs.Laws.{said, tests, calls, passes, fails}
+use Rattle.refusal.proofs.Laws.{tests, calls, passes, fails}
 use Rattle.word.specs.Words.{u32_at}
 use Rattle.word.specs.declared.Endian.{Endian}
 use Rattle.header.specs.declared.Table.{Table}
@@ -24,13 +24,7 @@ use Rattle.header.specs.declared.Header.{Header}
 use Rattle.header.specs.declared.Shape.{Shape}
 use Rattle.header.specs.declared.Three.{Three}
 use Rattle.header.specs.declared.Section.{Section}
-use Rattle.header.specs.declared.OrderAnswer.{OrderAnswer}
-use Rattle.header.specs.declared.TableAnswer.{TableAnswer}
-use Rattle.header.specs.declared.ThreeAnswer.{ThreeAnswer}
-use Rattle.header.specs.declared.SectionAnswer.{SectionAnswer}
-use Rattle.header.specs.declared.HeaderAnswer.{HeaderAnswer}
 use Rattle.header.specs.Header.{four_of, four, version_at, table_allowed, table_of, table_at, section_of, section_at, joined, tables_at, body_of, body_at, order_at, versioned_at, up_to_end}
-use Rattle.header.specs.Answers.{order_outcome, table_outcome, three_outcome, section_outcome, header_outcome}
 
 -- ---- four bytes
 module _ (w x y z a b c d : ℕ) where
@@ -115,37 +109,19 @@ module _ (f : List ℕ) {v : ℕ} (e : v ≡ version_at f) where
   unfolding versioned_at
   version_unknown p made = rw (← e) (fails _ made (le-ltb 0 v p))
 
--- ---- a call's answer, by the arm that was taken
-pub on_order : {B : Type 0} {x c : OrderAnswer} {o : Outcome Endian} {y : Outcome B} (k : Endian → Outcome B) → order_outcome x ≡ o → x ≡ c → y ≡ (order_outcome c >>= k) → y ≡ (o >>= k)
-on_order = said order_outcome
-
-pub on_table : {B : Type 0} {x c : TableAnswer} {o : Outcome Table} {y : Outcome B} (k : Table → Outcome B) → table_outcome x ≡ o → x ≡ c → y ≡ (table_outcome c >>= k) → y ≡ (o >>= k)
-on_table = said table_outcome
-
-pub on_three : {B : Type 0} {x c : ThreeAnswer} {o : Outcome Three} {y : Outcome B} (k : Three → Outcome B) → three_outcome x ≡ o → x ≡ c → y ≡ (three_outcome c >>= k) → y ≡ (o >>= k)
-on_three = said three_outcome
-
-pub on_section : {B : Type 0} {x c : SectionAnswer} {o : Outcome Section} {y : Outcome B} (k : Section → Outcome B) → section_outcome x ≡ o → x ≡ c → y ≡ (section_outcome c >>= k) → y ≡ (o >>= k)
-on_section = said section_outcome
-
-pub on_header : {B : Type 0} {x c : HeaderAnswer} {o : Outcome Header} {y : Outcome B} (k : Header → Outcome B) → header_outcome x ≡ o → x ≡ c → y ≡ (header_outcome c >>= k) → y ≡ (o >>= k)
-on_header = said header_outcome
-
 -- ---- the section of a file
 pub section_short : (f : List ℕ) (h : Header) → length f < h.end → f ≡ up_to_end f h
 unfolding up_to_end
 section_short f h p = sym (take_all h.end f (omega arith))
 
-pub section_whole : (f : List ℕ) (h : Header) → take (h.end - 0) (drop 0 f) ≡ up_to_end f h
+pub section_whole : (f : List ℕ) (h : Header) → take h.end f ≡ up_to_end f h
 unfolding up_to_end
-section_whole f h = let e : h.end - 0 ≡ h.end = omega arith in ap (λ (n : ℕ). take n f) e
+section_whole f h = refl
 
 pub ruleset four_laws = (first_differs, second_differs, third_differs, by_fourth, four_by, calls, rules)
 
 pub ruleset table_laws = (none_there, table_low, table_uneven, table_long, table_few, product_fits, end_fits, table_by, calls, tests, rules)
 
-pub ruleset own_laws = (on_order, on_table, on_three, on_section, section_by, joined_by, body_by, version_known, version_unknown, calls, tests, rules)
+pub ruleset own_laws = (section_by, joined_by, body_by, version_known, version_unknown, calls, tests, rules)
 
 pub ruleset section_laws = (section_short, section_whole, rules)
-
-pub ruleset laws = (on_header, calls)

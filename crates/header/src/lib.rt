@@ -157,8 +157,6 @@ fn order_at(f: &[u8]) -> Result<Endian, Refusal>
 fn is_table_allowed(length: usize, shape: Shape, count: u32, offset: u32) -> bool
     ensures { result ≡ table_allowed length shape count offset }
 {
-    let width = shape.width;
-    let most = shape.most;
     if count == 0 {
         return offset == 0;
     }
@@ -168,10 +166,10 @@ fn is_table_allowed(length: usize, shape: Shape, count: u32, offset: u32) -> boo
     if offset % 4 != 0 {
         return false;
     }
-    if length < offset as usize + width as usize * count as usize {
+    if length < offset as usize + shape.width as usize * count as usize {
         return false;
     }
-    count <= most
+    count <= shape.most
 }
 
 // The table whose count and offset stand at a place of the header.
@@ -230,23 +228,17 @@ fn section_at(f: &[u8], order: Endian) -> Result<Section, Refusal>
 fn join(f: &[u8], version: u32, order: Endian, t: Three, u: Three, d: Section) -> Header
     ensures { result ≡ joined f.now version order t u d }
 {
-    let strings = t.first;
-    let types = t.second;
-    let protos = t.third;
-    let fields = u.first;
-    let methods = u.second;
-    let classes = u.third;
     Header {
         version,
         order,
         checksum: word::u32_at(f, 8, order),
         map: word::u32_at(f, 52, order) as usize,
-        strings,
-        types,
-        protos,
-        fields,
-        methods,
-        classes,
+        strings: t.first,
+        types: t.second,
+        protos: t.third,
+        fields: u.first,
+        methods: u.second,
+        classes: u.third,
         start: d.start,
         end: d.end,
     }
@@ -316,31 +308,24 @@ fn versioned(f: &[u8]) -> Result<Header, Refusal>
 pub fn up_to_end(f: &[u8], header: Header) -> &[u8]
     ensures { result.now ≡ up_to_end f.now header }
 {
-    let end = header.end;
-    if f.len() < end {
+    if f.len() < header.end {
         return f;
     }
-    &f[0..end]
+    &f[..header.end]
 }
 
 // What items are read against in a file with this header and so many method handles.
 pub fn frame_of(header: Header, handles: u32) -> Frame
     ensures { result ≡ frame_of header handles }
 {
-    let order = header.order;
-    let strings = header.strings;
-    let types = header.types;
-    let protos = header.protos;
-    let fields = header.fields;
-    let methods = header.methods;
     Frame {
-        order,
+        order: header.order,
         start: header.start,
-        strings: strings.count,
-        types: types.count,
-        protos: protos.count,
-        fields: fields.count,
-        methods: methods.count,
+        strings: header.strings.count,
+        types: header.types.count,
+        protos: header.protos.count,
+        fields: header.fields.count,
+        methods: header.methods.count,
         handles,
     }
 }

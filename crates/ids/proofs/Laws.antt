@@ -1,22 +1,17 @@
--- What the functions' proofs cite: a reading from the values that were read, and a call's answer.
+-- What the functions' proofs cite: a reading from the values that were read.
 -- Assumes nothing.
 use Prim.Native.Nat.{ℕ, ◌+◌, ◌*◌}
 use mathlib.Core.Path.{◌≡◌}
 use mathlib.Core.List.{List}
 use borrow.Author.Rules.{rules}
-use Rattle.refusal.specs.Outcome.{Outcome, ◌>>=◌}
-use Rattle.refusal.proofs.Laws.{said, tests, calls}
+use Rattle.refusal.specs.Outcome.{Outcome}
+use Rattle.refusal.proofs.Laws.{tests, calls}
 use Rattle.word.specs.Words.{u16_at, u32_at}
 use Rattle.frame.specs.declared.Frame.{Frame}
 use Rattle.ids.specs.declared.Proto.{Proto}
 use Rattle.ids.specs.declared.MemberId.{MemberId}
 use Rattle.ids.specs.declared.Handle.{Handle}
-use Rattle.ids.specs.declared.IndexAnswer.{IndexAnswer}
-use Rattle.ids.specs.declared.ProtoAnswer.{ProtoAnswer}
-use Rattle.ids.specs.declared.MemberIdAnswer.{MemberIdAnswer}
-use Rattle.ids.specs.declared.HandleAnswer.{HandleAnswer}
 use Rattle.ids.specs.Records.{type_of, type_at, proto_of, proto_at, member_id_of, member_id_at, handle_of, handle_at}
-use Rattle.ids.specs.Answers.{index_outcome, proto_outcome, member_id_outcome, handle_outcome}
 
 module _ (f : List ℕ) (r : Frame) (offset n : ℕ) where
   pub type_by : {v : ℕ} {y : Outcome ℕ} → v ≡ u32_at r.order f (offset + 4 * n) → y ≡ type_of r (offset + 4 * n) v → y ≡ type_at f r offset n
@@ -37,18 +32,4 @@ module _ (f : List ℕ) (r : Frame) (offset n : ℕ) where
   unfolding handle_at
   handle_by e g h = rw (← e, ← g) h
 
-pub on_index : {B : Type 0} {x c : IndexAnswer} {o : Outcome ℕ} {y : Outcome B} (k : ℕ → Outcome B) → index_outcome x ≡ o → x ≡ c → y ≡ (index_outcome c >>= k) → y ≡ (o >>= k)
-on_index = said index_outcome
-
-pub on_proto : {B : Type 0} {x c : ProtoAnswer} {o : Outcome Proto} {y : Outcome B} (k : Proto → Outcome B) → proto_outcome x ≡ o → x ≡ c → y ≡ (proto_outcome c >>= k) → y ≡ (o >>= k)
-on_proto = said proto_outcome
-
-pub on_member : {B : Type 0} {x c : MemberIdAnswer} {o : Outcome MemberId} {y : Outcome B} (k : MemberId → Outcome B) → member_id_outcome x ≡ o → x ≡ c → y ≡ (member_id_outcome c >>= k) → y ≡ (o >>= k)
-on_member = said member_id_outcome
-
-pub on_handle : {B : Type 0} {x c : HandleAnswer} {o : Outcome Handle} {y : Outcome B} (k : Handle → Outcome B) → handle_outcome x ≡ o → x ≡ c → y ≡ (handle_outcome c >>= k) → y ≡ (o >>= k)
-on_handle = said handle_outcome
-
 pub ruleset own_laws = (type_by, proto_by, member_by, handle_by, calls, tests, rules)
-
-pub ruleset laws = (on_index, on_proto, on_member, on_handle)

@@ -35,9 +35,8 @@ pub struct Handle {
 pub fn type_at(f: &[u8], frame: Frame, offset: u32, n: u32) -> Result<u32, Refusal>
     ensures { index_outcome result ≡ type_at f.now frame offset n }
 {
-    let order = frame.order;
     let place = offset as usize + 4 * n as usize;
-    let string = word::u32_at(f, place, order);
+    let string = word::u32_at(f, place, frame.order);
     if string < frame.strings {
         return Ok(string);
     }
@@ -48,11 +47,10 @@ pub fn type_at(f: &[u8], frame: Frame, offset: u32, n: u32) -> Result<u32, Refus
 pub fn proto_at(f: &[u8], frame: Frame, end: usize, offset: u32, n: u32) -> Result<Proto, Refusal>
     ensures { proto_outcome result ≡ proto_at f.now frame end offset n }
 {
-    let order = frame.order;
     let place = offset as usize + 12 * n as usize;
-    let shorty = word::u32_at(f, place, order);
-    let return_type = word::u32_at(f, place + 4, order);
-    let parameters = word::u32_at(f, place + 8, order);
+    let shorty = word::u32_at(f, place, frame.order);
+    let return_type = word::u32_at(f, place + 4, frame.order);
+    let parameters = word::u32_at(f, place + 8, frame.order);
     if frame.strings <= shorty {
         return Err(refusal::wrong_index(place));
     }
@@ -79,11 +77,10 @@ pub fn member_at(
 ) -> Result<MemberId, Refusal>
     ensures { member_id_outcome result ≡ member_id_at f.now frame kinds offset n }
 {
-    let order = frame.order;
     let place = offset as usize + 8 * n as usize;
-    let class = word::u16_at(f, place, order) as u32;
-    let kind = word::u16_at(f, place + 2, order) as u32;
-    let name = word::u32_at(f, place + 4, order);
+    let class = word::u16_at(f, place, frame.order) as u32;
+    let kind = word::u16_at(f, place + 2, frame.order) as u32;
+    let name = word::u32_at(f, place + 4, frame.order);
     if frame.types <= class {
         return Err(refusal::wrong_index(place));
     }
@@ -100,10 +97,9 @@ pub fn member_at(
 pub fn handle_at(f: &[u8], frame: Frame, offset: u32, n: u32) -> Result<Handle, Refusal>
     ensures { handle_outcome result ≡ handle_at f.now frame offset n }
 {
-    let order = frame.order;
     let place = offset as usize + 8 * n as usize;
-    let kind = word::u16_at(f, place, order) as u32;
-    let number = word::u16_at(f, place + 4, order) as u32;
+    let kind = word::u16_at(f, place, frame.order) as u32;
+    let number = word::u16_at(f, place + 4, frame.order) as u32;
     if 8 < kind {
         return Err(refusal::unknown_kind(place));
     }

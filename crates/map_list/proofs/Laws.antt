@@ -13,7 +13,7 @@ use Rattle.refusal.specs.Refusals.{runs_past, wrong_map, wrong_offset}
 use Rattle.refusal.specs.declared.Refusal.{Refusal}
 use Rattle.refusal.specs.Outcome.{Outcome, answer, refused, ◌>>=◌}
 use Rattle.refusal.specs.Rows.{Found, past, collect}
-use Rattle.refusal.proofs.Laws.{said, calls, passes, fails, bind_answer, bind_refused}
+use Rattle.refusal.proofs.Laws.{calls, passes, fails, bind_answer, bind_refused}
 use Rattle.refusal.proofs.Loops.{Gather, gather_first, gather_next, gather_stop, gather_done}
 use Rattle.word.specs.Words.{u16_at, u32_at}
 use Rattle.word.specs.declared.Endian.{Endian}
@@ -25,12 +25,8 @@ use Rattle.frame.specs.Offsets.{allowed}
 use Rattle.map_list.specs.declared.MapEntry.{MapEntry}
 use Rattle.map_list.specs.declared.MapJudge.{MapJudge}
 use Rattle.map_list.specs.declared.MapList.{MapList}
-use Rattle.map_list.specs.declared.HandlesAnswer.{HandlesAnswer}
-use Rattle.map_list.specs.declared.MapAnswer.{MapAnswer}
-use Rattle.map_list.specs.declared.HandlesAnswer.TheVariants as T
 use Rattle.map_list.specs.Codes.{map_code_number}
 use Rattle.map_list.specs.Map.{entry_at, entry_number, handles_allowed, entry_allowed, next_allowed, handles_of, Scan, judged, step_at, begin, Map, list_of, list_at, judge_of, map_at, kept, scan_at, kept_list_at, kept_at}
-use Rattle.map_list.specs.Answers.{handles_outcome, map_outcome}
 use Rattle.map_list.proofs.Exactly.{counted}
 
 -- ---- the tests of an entry
@@ -107,16 +103,16 @@ pub number_there : (f : List ℕ) (h : Header) (k : ℕ) {s : List ℕ} {r : Map
 unfolding entry_number
 number_there f h k e p = rw (← e) p
 
--- ---- the loop of `scan` at its head: `left` entries are still to be judged
-pub record Scanning (s : List ℕ) (j : MapJudge) (from count left place floor : ℕ) (seen : List ℕ) (handles : Table) : Type 0 where
-  pub gather : Gather (step_at s j) count (begin from) left (record { place = place; floor = floor; seen = seen; handles = handles })
-  pub room : place + 12 * left ≤ length s
+-- ---- the loop of `scan` at its head: k entries were judged
+pub record Scanning (s : List ℕ) (j : MapJudge) (from count k place floor : ℕ) (seen : List ℕ) (handles : Table) : Type 0 where
+  pub gather : Gather (step_at s j) count (begin from) k (record { place = place; floor = floor; seen = seen; handles = handles })
+  pub room : place + 12 * (count - k) ≤ length s
 
-pub scanning_first : (s : List ℕ) (j : MapJudge) (from count : ℕ) → from + 12 * count ≤ length s → Scanning s j from count count from 0 (replicate 21 0) (record { count = 0; offset = 0 })
-scanning_first s j from count h = record { gather = gather_first (step_at s j) count (begin from); room = h }
+pub scanning_first : (s : List ℕ) (j : MapJudge) (from count : ℕ) → from + 12 * count ≤ length s → Scanning s j from count 0 from 0 (replicate 21 0) (record { count = 0; offset = 0 })
+scanning_first s j from count h = record { gather = gather_first (step_at s j) count (begin from); room = omega arith }
 
-module _ {s : List ℕ} {j : MapJudge} {from count left place floor : ℕ} {seen : List ℕ} {handles : Table} (h : Scanning s j from count left place floor seen handles) {e : MapEntry} {number : ℕ}
-    (l : 0 < left) (read : e ≡ entry_at j.order s place) (is : number ≡ map_code_number e.kind) where
+module _ {s : List ℕ} {j : MapJudge} {from count k place floor : ℕ} {seen : List ℕ} {handles : Table} (h : Scanning s j from count k place floor seen handles) {e : MapEntry} {number : ℕ}
+    (l : k < count) (read : e ≡ entry_at j.order s place) (is : number ≡ map_code_number e.kind) where
   abbrev here_at : Scan
   here_at = record { place = place; floor = floor; seen = seen; handles = handles }
 
@@ -140,7 +136,7 @@ module _ {s : List ℕ} {j : MapJudge} {from count left place floor : ℕ} {seen
     scanning_fail q made = stops _ (passes (wrong_map j.at) in_table (fails _ made (sym there ∙ q)))
 
     pub scanning_next : {hs : Table} → b ≡ true → hs ≡ handles_of e handles
-        → Scanning s j from count (left - 1) (place + 12) (e.offset + 1) (set seen number 1) hs
+        → Scanning s j from count (k + 1) (place + 12) (e.offset + 1) (set seen number 1) hs
     unfolding step_at judged
     scanning_next {hs} q g =
         let to : Found MapEntry Scan = record { item = e; next = record { place = place + 12; floor = e.offset + 1; seen = set seen number 1; handles = hs } } in
@@ -149,7 +145,7 @@ module _ {s : List ℕ} {j : MapJudge} {from count left place floor : ℕ} {seen
         (λ i. answer (record { item = e; next = record { place = place + 12; floor = e.offset + 1; seen = set seen (is i) 1; handles = g i } }))) in
         record { gather = gather_next h.gather l (sym (bind_answer past (ap (judged j here_at) (sym read) ∙ sym good))); room = let z = h.room in omega arith }
 
-pub scanning_done : {s : List ℕ} {j : MapJudge} {from count left place floor : ℕ} {seen : List ℕ} {handles : Table} → Scanning s j from count left place floor seen handles → left ≤ 0 → answer handles ≡ scan_at s j from count
+pub scanning_done : {s : List ℕ} {j : MapJudge} {from count k place floor : ℕ} {seen : List ℕ} {handles : Table} → Scanning s j from count k place floor seen handles → count ≤ k → answer handles ≡ scan_at s j from count
 unfolding scan_at
 scanning_done h l =
     let r = gather_done h.gather l in
@@ -190,9 +186,11 @@ module _ (s : List ℕ) (j : MapJudge) where
           go (answer r) e = λ i. answer (record { count = counted s j count (j.at + 4) r e i; handles = r.next.handles })
           go (refused r) e = refl
 
-      pub list_by : {x c : HandlesAnswer} {y : Outcome MapList} → handles_outcome x ≡ scan_at s j (j.at + 4) count → x ≡ c
-          → y ≡ (handles_outcome c >>= λ (t : Table). answer (record { count = count; handles = t })) → y ≡ kept_list_at s j
-      list_by e m g = said handles_outcome _ e m g ∙ sym scanned
+      pub list_got : {t : Table} → answer t ≡ scan_at s j (j.at + 4) count → answer (record { count = count; handles = t }) ≡ kept_list_at s j
+      list_got e = sym (scanned ∙ bind_answer _ (sym e))
+
+      pub list_refused : {r : Refusal} → refused r ≡ scan_at s j (j.at + 4) count → refused r ≡ kept_list_at s j
+      list_refused e = sym (scanned ∙ bind_refused _ (sym e))
 
 pub map_outside : (f : List ℕ) (h : Header) {s : List ℕ} {b : Bool} {r : Refusal} → s ≡ up_to_end f h → b ≡ allowed h.start (length s) true h.map → b ≡ false
     → r ≡ wrong_offset 0 → refused r ≡ kept_at f h
@@ -206,15 +204,10 @@ map_inside f h {s} {b} {y} e a t g =
     g ∙ ap (λ (x : List ℕ). list_at x (judge_of f h) >>= kept) e
     ∙ ap (λ (o : Outcome Map). o >>= kept) (passes (wrong_offset 0) (sym (ap (λ (x : List ℕ). allowed h.start (length x) true h.map) e) ∙ sym a ∙ t) refl)
 
-pub on_map : {B : Type 0} {x c : MapAnswer} {o : Outcome MapList} {y : Outcome B} (k : MapList → Outcome B) → map_outcome x ≡ o → x ≡ c → y ≡ (map_outcome c >>= k) → y ≡ (o >>= k)
-on_map = said map_outcome
-
 pub ruleset number_laws = (number_past, number_there, rules)
 
 pub ruleset entry_laws = (handles_low, handles_uneven, handles_room, entry_sites, entry_old, entry_handles, entry_other, next_low, next_seen, next_by, handles_new, handles_kept, entry_past, entry_by, rules)
 
 pub ruleset scan_laws = (scanning_first, scanning_unknown, scanning_fail, scanning_next, scanning_done, rules)
 
-pub ruleset list_laws = (list_low, list_short, list_long, list_by, room_there, map_outside, map_inside, calls, rules)
-
-pub ruleset laws = (on_map, calls)
+pub ruleset list_laws = (list_low, list_short, list_long, list_got, list_refused, room_there, map_outside, map_inside, calls, rules)

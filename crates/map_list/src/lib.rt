@@ -43,14 +43,12 @@ pub struct MapJudge {
 fn code_of(kind: u16) -> usize
     ensures { result ≡ map_code_number kind }
 {
-    let mut i: usize = 0;
-    while i < 21 {
-        if CODES[i] == kind {
+    for (i, code) in CODES.iter().enumerate() {
+        if *code == kind {
             return i;
         }
-        i += 1;
     }
-    21
+    CODES.len()
 }
 
 // The entry at a place.
@@ -75,17 +73,15 @@ fn entry_at(s: &[u8], order: Endian, at: usize) -> MapEntry
 pub fn entry_number(f: &[u8], header: Header, k: u32) -> MapEntry
     ensures { result ≡ entry_number f.now header k }
 {
-    let order = header.order;
-    let map = header.map;
     let s = header::up_to_end(f, header);
-    if s.len() <= map {
+    if s.len() <= header.map {
         return MapEntry {
             kind: 0,
             size: 0,
             offset: 0,
         };
     }
-    entry_at(s, order, map + 4 + 12 * k as usize)
+    entry_at(s, header.order, header.map + 4 + 12 * k as usize)
 }
 
 // May the method handles lie there: 8 bytes each, also where there are none.
@@ -105,11 +101,10 @@ fn are_handles_allowed(length: usize, size: u32, offset: u32) -> bool
 fn is_entry_allowed(version: u32, length: usize, e: MapEntry) -> bool
     ensures { result ≡ entry_allowed version length e }
 {
-    let kind = e.kind;
-    if kind == 7 {
+    if e.kind == 7 {
         return 38 <= version;
     }
-    if kind == 8 {
+    if e.kind == 8 {
         if version < 38 {
             return false;
         }
@@ -122,8 +117,7 @@ fn is_entry_allowed(version: u32, length: usize, e: MapEntry) -> bool
 fn is_next_allowed(j: MapJudge, e: MapEntry, floor: u64, seen: u8) -> bool
     ensures { result ≡ next_allowed j e floor seen }
 {
-    let offset = e.offset as u64;
-    if offset < floor {
+    if (e.offset as u64) < floor {
         return false;
     }
     if seen != 0 {
@@ -136,8 +130,7 @@ fn is_next_allowed(j: MapJudge, e: MapEntry, floor: u64, seen: u8) -> bool
 fn handles_of(e: MapEntry, before: Table) -> Table
     ensures { result ≡ handles_of e before }
 {
-    let kind = e.kind;
-    if kind == 8 {
+    if e.kind == 8 {
         return Table {
             count: e.size,
             offset: e.offset,
@@ -151,7 +144,6 @@ fn scan(s: &[u8], j: MapJudge, from: usize, count: u32) -> Result<Table, Refusal
     requires { from + 12 * count ≤ length s.now }
     ensures { handles_outcome result ≡ scan_at s.now j from count }
 {
-    let order = j.order;
     let mut seen = [0u8; 21];
     let mut handles = Table {
         count: 0,
@@ -160,7 +152,7 @@ fn scan(s: &[u8], j: MapJudge, from: usize, count: u32) -> Result<Table, Refusal
     let mut place = from;
     let mut floor: u64 = 0;
     for _ in 0..count {
-        let e = entry_at(s, order, place);
+        let e = entry_at(s, j.order, place);
         let number = code_of(e.kind);
         if 21 <= number {
             return Err(refusal::wrong_map(j.at));
@@ -181,19 +173,17 @@ fn scan(s: &[u8], j: MapJudge, from: usize, count: u32) -> Result<Table, Refusal
 fn list_at(s: &[u8], j: MapJudge) -> Result<MapList, Refusal>
     ensures { map_outcome result ≡ kept_list_at s.now j }
 {
-    let order = j.order;
-    let at = j.at;
-    if s.len() < at {
-        return Err(refusal::runs_past(at));
+    if s.len() < j.at {
+        return Err(refusal::runs_past(j.at));
     }
-    if s.len() - at < 4 {
-        return Err(refusal::runs_past(at));
+    if s.len() - j.at < 4 {
+        return Err(refusal::runs_past(j.at));
     }
-    let count = word::u32_at(s, at, order);
-    if s.len() - at - 4 < 12 * count as usize {
-        return Err(refusal::runs_past(at));
+    let count = word::u32_at(s, j.at, j.order);
+    if s.len() - j.at - 4 < 12 * count as usize {
+        return Err(refusal::runs_past(j.at));
     }
-    let handles = scan(s, j, at + 4, count)?;
+    let handles = scan(s, j, j.at + 4, count)?;
     Ok(MapList { count, handles })
 }
 
@@ -201,13 +191,12 @@ fn list_at(s: &[u8], j: MapJudge) -> Result<MapList, Refusal>
 pub fn map_of(f: &[u8], header: Header) -> Result<MapList, Refusal>
     ensures { map_outcome result ≡ kept_at f.now header }
 {
-    let order = header.order;
     let s = header::up_to_end(f, header);
     if frame::is_allowed(header.start, s.len(), true, header.map) {
         return list_at(
             s,
             MapJudge {
-                order,
+                order: header.order,
                 version: header.version,
                 length: f.len(),
                 at: header.map,

@@ -3,3 +3,6 @@
 
 use header::Header;
 use refusal::Refusal;
+
+// The header of a file that obeys every rule, or the refusal.
+pub type Verdict = Result<Header, Refusal>;

@@ -2,10 +2,10 @@ use Rattle.header.proofs.Laws.{own_laws as laws}
 use Rattle.header.specs.Header.{sectioned_at}
 use Rattle.header.proofs.sectioned.Goals as goal
 
-pub returns-in-Refused : goal.returns-in-Refused
+pub returns-in_err-d : goal.returns-in_err-d
 unfolding sectioned_at
-returns-in-Refused c = search laws
+returns-in_err-d c = search laws
 
-pub returns-in-Got : goal.returns-in-Got
+pub returns : goal.returns
 unfolding sectioned_at
-returns-in-Got c = search laws
+returns c = search laws

@@ -2,14 +2,14 @@ use Rattle.header.proofs.Laws.{own_laws as laws}
 use Rattle.header.specs.Header.{tables_at}
 use Rattle.header.proofs.tables_at.Goals as goal
 
-pub returns-in-Refused : goal.returns-in-Refused
+pub returns-in_err-t : goal.returns-in_err-t
 unfolding tables_at
-returns-in-Refused c = search laws depth 7
+returns-in_err-t c = search laws depth 7
 
-pub returns-in-Refused-three_at : goal.returns-in-Refused-three_at
+pub returns-in_err-u : goal.returns-in_err-u
 unfolding tables_at
-returns-in-Refused-three_at c = search laws depth 7
+returns-in_err-u c = search laws depth 7
 
-pub returns-in-Got-three_at : goal.returns-in-Got-three_at
+pub returns : goal.returns
 unfolding tables_at
-returns-in-Got-three_at c = search laws depth 7
+returns c = search laws depth 7

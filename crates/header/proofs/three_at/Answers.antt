@@ -2,18 +2,18 @@ use Rattle.header.proofs.Laws.{own_laws as laws}
 use Rattle.header.specs.Header.{three_at}
 use Rattle.header.proofs.three_at.Goals as goal
 
-pub returns-in-Refused : goal.returns-in-Refused
+pub returns-in_err-first : goal.returns-in_err-first
 unfolding three_at
-returns-in-Refused c = search laws depth 9
+returns-in_err-first c = search laws depth 9
 
-pub returns-in-Refused-table_at : goal.returns-in-Refused-table_at
+pub returns-in_err-second : goal.returns-in_err-second
 unfolding three_at
-returns-in-Refused-table_at c = search laws depth 9
+returns-in_err-second c = search laws depth 9
 
-pub returns-in-Refused-table_at-2 : goal.returns-in-Refused-table_at-2
+pub returns-in_err-third : goal.returns-in_err-third
 unfolding three_at
-returns-in-Refused-table_at-2 c = search laws depth 9
+returns-in_err-third c = search laws depth 9
 
-pub returns-in-Got-table_at-2 : goal.returns-in-Got-table_at-2
+pub returns : goal.returns
 unfolding three_at
-returns-in-Got-table_at-2 c = search laws depth 9
+returns c = search laws depth 9

@@ -5,10 +5,6 @@ use Rattle.map_list.proofs.code_of.Goals as goal
 pub loop-i-init : goal.loop-i-init
 loop-i-init c = search laws
 
-pub returns-then-i-kind : goal.returns-then-i-kind
-unfolding codes
-returns-then-i-kind c = search laws
-
 pub loop-i-preserved : goal.loop-i-preserved
 unfolding codes
 loop-i-preserved c = search laws
@@ -16,3 +12,7 @@ loop-i-preserved c = search laws
 pub returns : goal.returns
 unfolding codes
 returns c = search laws
+
+pub returns-then-code-kind : goal.returns-then-code-kind
+unfolding codes
+returns-then-code-kind c = search laws

@@ -1,9 +1,5 @@
 use Rattle.map_list.proofs.Codes.{Searching}
-use Prim.Native.Nat.{◌-◌}
 use Rattle.map_list.proofs.code_of.Given as goal
 
 abbrev pub invariant-loop-i : goal.invariant-loop-i
 invariant-loop-i l = Searching l.kind l.i
-
-abbrev pub decreases-loop-i : goal.decreases-loop-i
-decreases-loop-i l = 21 - l.i
