@@ -1,12 +1,12 @@
 -- The string table's readings find exactly what the rules allow; and no two numbers have the same text.
 -- Assumes nothing.
 use Prim.Native.Nat.{ℕ}
-use mathlib.Core.Path.{◌≡◌, refl, sym, subst, ◌∙◌}
+use mathlib.Core.Path.{◌≡◌, sym, subst, ◌∙◌}
 use mathlib.Core.Bool.{false}
 use mathlib.Core.Option.{Option}
 use mathlib.Core.List.{List}
 use Rattle.refusal.specs.Refusals.{out_of_order, wrong_offset}
-use Rattle.refusal.specs.Exact.{Exact, At, Rising, Strict, Sought}
+use Rattle.refusal.specs.Exact.{Exact, At, Strict, Sought}
 use Rattle.refusal.specs.Seek.{position}
 use Rattle.refusal.proofs.Exact.{same, answer_exact, given_exact, bind_exact, exact_iff}
 use Rattle.refusal.proofs.Each.{in_turn_exact, rising_apart}

@@ -1,5 +1,5 @@
 -- The string table and the lookup as rules: what stands where, with no walk.
-use Rattle.std.specs.Prelude.{ℕ, ◌≡◌, false, List, length}
+use Rattle.std.specs.Prelude.{ℕ, ◌≡◌, false, List}
 use Rattle.std.proofs.Math.Option.{Option}
 use Rattle.refusal.specs.Exact.{Each, Rising, Sought}
 use Rattle.word.specs.Words.{u32_at}

@@ -1,5 +1,5 @@
 -- The string table as readings.
-use Rattle.std.specs.Prelude.{ℕ, ◌+◌, ◌*◌, Bool, false, List, length}
+use Rattle.std.specs.Prelude.{ℕ, ◌+◌, ◌*◌, Bool, false, List}
 use Rattle.std.proofs.Math.Option.{Option}
 use Rattle.refusal.specs.Refusals.{out_of_order, wrong_offset}
 use Rattle.refusal.specs.Outcome.{Outcome, answer, ◌>>=◌, given, accepted}

@@ -14,7 +14,6 @@ ghost use Rattle.string_ids.specs.Answers.{item_outcome, last_bytes, lookup_outc
 use header::Header;
 use refusal::Refusal;
 use text::TextPlace;
-use std::cmp::Ordering;
 
 // Where the last text's bytes lie, if there is one.
 #[derive(Clone, Copy)]
@@ -27,17 +26,15 @@ pub struct Last {
 fn place_of(header: Header, n: u32) -> usize
     ensures { result ≡ string_place header n }
 {
-    let strings = header.strings;
-    strings.offset as usize + 4 * n as usize
+    header.strings.offset as usize + 4 * n as usize
 }
 
 // Where the item of string n is: 8 at the record.
 fn record_at(f: &[u8], header: Header, n: u32) -> Result<usize, Refusal>
     ensures { item_outcome result ≡ record_at f.now header n }
 {
-    let order = header.order;
     let place = place_of(header, n);
-    let offset = word::u32_at(f, place, order) as usize;
+    let offset = word::u32_at(f, place, header.order) as usize;
     if frame::is_allowed(header.start, header.end, false, offset) {
         return Ok(offset);
     }
@@ -58,16 +55,11 @@ fn rises(s: &[u8], last: Option<Last>, start: usize, length: usize) -> bool
 {
     match last {
         None => true,
-        Some(
-            Last {
-                start: p,
-                length: n,
-            },
-        ) => match text_order::compare(word::bytes_at(s, p, n), word::bytes_at(s, start, length)) {
-            Ordering::Less => true,
-            Ordering::Equal => false,
-            Ordering::Greater => false,
-        },
+        Some(l) => text_order::compare(
+            word::bytes_at(s, l.start, l.length),
+            word::bytes_at(s, start, length),
+        )
+        .is_lt(),
     }
 }
 
@@ -77,11 +69,8 @@ fn found_with(found: Option<u32>, bytes: &[u8], text: &[u8], k: u32) -> Option<u
 {
     match found {
         Some(j) => Some(j),
-        None => match text_order::compare(bytes, text) {
-            Ordering::Less => None,
-            Ordering::Equal => Some(k),
-            Ordering::Greater => None,
-        },
+        None if text_order::compare(bytes, text).is_eq() => Some(k),
+        None => None,
     }
 }
 
@@ -90,15 +79,13 @@ pub fn check_strings(f: &[u8], header: Header) -> Result<(), Refusal>
     ensures { checked_outcome result ≡ strings_checked f.now header }
 {
     let s = header::up_to_end(f, header);
-    let strings = header.strings;
     let mut last = None;
-    for n in 0..strings.count {
+    for n in 0..header.strings.count {
         let TextPlace { start, length, .. } = string_at(f, header, n)?;
-        if rises(s, last, start, length) {
-            last = Some(Last { start, length });
-        } else {
+        if !rises(s, last, start, length) {
             return Err(refusal::out_of_order(place_of(header, n)));
         }
+        last = Some(Last { start, length });
     }
     Ok(())
 }
@@ -108,17 +95,15 @@ pub fn look_up(f: &[u8], header: Header, text: &[u8]) -> Result<Option<u32>, Ref
     ensures { lookup_outcome result ≡ looked_up f.now header text.now }
 {
     let s = header::up_to_end(f, header);
-    let strings = header.strings;
     let mut last = None;
     let mut found = None;
-    for k in 0..strings.count {
+    for k in 0..header.strings.count {
         let TextPlace { start, length, .. } = string_at(f, header, k)?;
-        if rises(s, last, start, length) {
-            found = found_with(found, word::bytes_at(s, start, length), text, k);
-            last = Some(Last { start, length });
-        } else {
+        if !rises(s, last, start, length) {
             return Err(refusal::out_of_order(place_of(header, k)));
         }
+        found = found_with(found, word::bytes_at(s, start, length), text, k);
+        last = Some(Last { start, length });
     }
     Ok(found)
 }
