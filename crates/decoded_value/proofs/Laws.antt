@@ -18,31 +18,24 @@ use mir.Val.{Fits}
 use Rattle.refusal.specs.declared.Refusal.{Refusal}
 use Rattle.refusal.specs.Outcome.{Outcome, answer, refused, ◌>>=◌}
 use Rattle.refusal.specs.Rows.{Found, past}
-use Rattle.refusal.proofs.Laws.{said, bind_answer, bind_refused}
+use Rattle.refusal.proofs.Laws.{handed_on, bind_answer, bind_refused}
 use Rattle.refusal.proofs.Exact.{equal, at_most, one_of}
 use Rattle.refusal.proofs.Rows.{past_answer, past_refused}
 use Rattle.value_heads.specs.declared.Walk.{Walk}
-use Rattle.encoded_value.specs.declared.StepAnswer.{StepAnswer}
-use Rattle.encoded_value.specs.declared.StepAnswer.TheVariants as S
-use Rattle.value_heads.specs.declared.HeadByteAnswer.{HeadByteAnswer}
-use Rattle.value_heads.specs.declared.HeadByteAnswer.TheVariants as H
-use Rattle.value_heads.specs.declared.NumberAnswer.{NumberAnswer}
-use Rattle.value_heads.specs.declared.NumberAnswer.TheVariants as N
+use Rattle.std.specs.Prelude.{Ok}
 use Rattle.value_heads.specs.Kinds.{arguments, bytes_of}
 use Rattle.value_heads.specs.Numbers.{signed, raised}
 use Rattle.encoded_value.specs.Tree.{Tree, byte, short, char, int, long, float, double, index, null, boolean, rest_of, plain_of}
 use Rattle.value_heads.specs.Readings.{head_byte_at, checked_at}
 use Rattle.encoded_value.specs.Readings.{plain_at, kind_with, array_at, annotation_at, as_array, as_annotation}
-use Rattle.value_heads.specs.Answers.{head_byte_outcome, number_outcome, Small}
-use Rattle.encoded_value.specs.Answers.{step_outcome}
+use Rattle.value_heads.specs.Answers.{Small}
 use Rattle.value_heads.proofs.Numbers.{size_some, size_most}
 use Rattle.value_heads.proofs.Laws.{head_there, after_head}
 use Rattle.encoded_value.proofs.Cycle.{value_kind, no_value, kind_array, kind_annotation, kind_plain}
 use Rattle.encoded_value.proofs.Bounds.{array_ends, annotation_ends}
-use Rattle.decoded_value.specs.declared.DecodedAnswer.{DecodedAnswer}
 use Rattle.decoded_value.specs.Shown.{Shown, is, floating, body, shown}
 use Rattle.decoded_value.specs.Sizes.{Sized, Fitting}
-use Rattle.decoded_value.specs.Readings.{read_out, decoded_at, decoded_array, decoded_annotation, decoded_outcome}
+use Rattle.decoded_value.specs.Readings.{read_out, decoded_at, decoded_array, decoded_annotation}
 
 -- ---- one computed test of the table
 -- a test of each number below n
@@ -185,58 +178,56 @@ pub float_by : (f : Format) (k : ℕ) {b r : ℕ} {v : Float} → b ≡ r → v 
 float_by f k e h = λ i. is k (floating (e i) ((h ∙ ap (of_bits f) e) i))
 
 -- ---- a nested body, behind its head byte at p
-module _ (s : List ℕ) (w : Walk) (left p : ℕ) {x : StepAnswer} where
-  module _ (e : step_outcome x ≡ (array_at s w left (p + 1) >>= past)) where
-    module _ {q : ℕ} (t : x ≡ S.Next q) where
-      pub array_after : p ≤ q
-      array_after = let b = (array_ends s w left (p + 1) e t).after_place in omega arith
+module _ (s : List ℕ) (w : Walk) (left p : ℕ) where
+  module _ {q : ℕ} (e : answer q ≡ (array_at s w left (p + 1) >>= past)) where
+    pub array_after : p ≤ q
+    array_after = let b = (array_ends s w left (p + 1) e).after_place in omega arith
 
-      pub array_some : 1 ≤ q - p
-      array_some = let b = (array_ends s w left (p + 1) e t).after_place in omega arith
+    pub array_some : 1 ≤ q - p
+    array_some = let b = (array_ends s w left (p + 1) e).after_place in omega arith
 
-      pub array_read : answer (record { item = is 0x1c (body (p + 1) (q - p - 1)); next = q }) ≡ decoded_array s w left (p + 1)
-      unfolding decoded_array
-      array_read =
-          let r = past_answer (array_at s w left (p + 1)) (sym (ap step_outcome t) ∙ e) in
-          let end = r.1.1 in
-          let long : q - p - 1 ≡ r.0.next - (p + 1) = omega arith in
-          (λ i. answer (record { item = is 0x1c (body (p + 1) (long i)); next = sym end i })) ∙ sym (bind_answer read_out (bind_answer (as_array (p + 1)) (sym r.1.0)))
-
-    pub array_unread : {r : Refusal} → x ≡ S.Refused r → refused r ≡ decoded_array s w left (p + 1)
+    pub array_read : answer (record { item = is 0x1c (body (p + 1) (q - p - 1)); next = q }) ≡ decoded_array s w left (p + 1)
     unfolding decoded_array
-    array_unread t = sym (bind_refused read_out (bind_refused (as_array (p + 1)) (sym (past_refused (array_at s w left (p + 1)) (sym (ap step_outcome t) ∙ e)))))
+    array_read =
+        let r = past_answer (array_at s w left (p + 1)) e in
+        let end = r.1.1 in
+        let long : q - p - 1 ≡ r.0.next - (p + 1) = omega arith in
+        (λ i. answer (record { item = is 0x1c (body (p + 1) (long i)); next = sym end i })) ∙ sym (bind_answer read_out (bind_answer (as_array (p + 1)) (sym r.1.0)))
 
-  module _ (e : step_outcome x ≡ (annotation_at s w left (p + 1) >>= past)) where
-    module _ {q : ℕ} (t : x ≡ S.Next q) where
-      pub annotation_after : p ≤ q
-      annotation_after = let b = (annotation_ends s w left (p + 1) e t).after_place in omega arith
+  pub array_unread : {r : Refusal} → refused r ≡ (array_at s w left (p + 1) >>= past) → refused r ≡ decoded_array s w left (p + 1)
+  unfolding decoded_array
+  array_unread e = sym (bind_refused read_out (bind_refused (as_array (p + 1)) (sym (past_refused (array_at s w left (p + 1)) e))))
 
-      pub annotation_some : 1 ≤ q - p
-      annotation_some = let b = (annotation_ends s w left (p + 1) e t).after_place in omega arith
+  module _ {q : ℕ} (e : answer q ≡ (annotation_at s w left (p + 1) >>= past)) where
+    pub annotation_after : p ≤ q
+    annotation_after = let b = (annotation_ends s w left (p + 1) e).after_place in omega arith
 
-      pub annotation_read : answer (record { item = is 0x1d (body (p + 1) (q - p - 1)); next = q }) ≡ decoded_annotation s w left (p + 1)
-      unfolding decoded_annotation
-      annotation_read =
-          let r = past_answer (annotation_at s w left (p + 1)) (sym (ap step_outcome t) ∙ e) in
-          let end = r.1.1 in
-          let long : q - p - 1 ≡ r.0.next - (p + 1) = omega arith in
-          (λ i. answer (record { item = is 0x1d (body (p + 1) (long i)); next = sym end i })) ∙ sym (bind_answer read_out (bind_answer (as_annotation (p + 1)) (sym r.1.0)))
+    pub annotation_some : 1 ≤ q - p
+    annotation_some = let b = (annotation_ends s w left (p + 1) e).after_place in omega arith
 
-    pub annotation_unread : {r : Refusal} → x ≡ S.Refused r → refused r ≡ decoded_annotation s w left (p + 1)
+    pub annotation_read : answer (record { item = is 0x1d (body (p + 1) (q - p - 1)); next = q }) ≡ decoded_annotation s w left (p + 1)
     unfolding decoded_annotation
-    annotation_unread t = sym (bind_refused read_out (bind_refused (as_annotation (p + 1)) (sym (past_refused (annotation_at s w left (p + 1)) (sym (ap step_outcome t) ∙ e)))))
+    annotation_read =
+        let r = past_answer (annotation_at s w left (p + 1)) e in
+        let end = r.1.1 in
+        let long : q - p - 1 ≡ r.0.next - (p + 1) = omega arith in
+        (λ i. answer (record { item = is 0x1d (body (p + 1) (long i)); next = sym end i })) ∙ sym (bind_answer read_out (bind_answer (as_annotation (p + 1)) (sym r.1.0)))
+
+  pub annotation_unread : {r : Refusal} → refused r ≡ (annotation_at s w left (p + 1) >>= past) → refused r ≡ decoded_annotation s w left (p + 1)
+  unfolding decoded_annotation
+  annotation_unread e = sym (bind_refused read_out (bind_refused (as_annotation (p + 1)) (sym (past_refused (annotation_at s w left (p + 1)) e))))
 
 -- ---- a value
-module _ (s : List ℕ) (w : Walk) (left p : ℕ) {x : HeadByteAnswer} (e : head_byte_outcome x ≡ head_byte_at s w.item p) where
-  pub value_unread : {r : Refusal} → x ≡ H.Refused r → refused r ≡ decoded_at s w left p
+module _ (s : List ℕ) (w : Walk) (left p : ℕ) where
+  pub value_unread : {r : Refusal} → refused r ≡ head_byte_at s w.item p → refused r ≡ decoded_at s w left p
   unfolding decoded_at
-  value_unread t = sym (bind_refused read_out (no_value s w left p e t))
+  value_unread e = sym (bind_refused read_out (no_value s w left p e))
 
-  module _ {h : ℕ} (t : x ≡ H.Got h) where
+  module _ {h : ℕ} (e : answer h ≡ head_byte_at s w.item p) where
     -- the value by its kind
     kind_is : decoded_at s w left p ≡ (kind_with s w (array_at s w left) (annotation_at s w left) h (p + 1) >>= read_out)
     unfolding decoded_at
-    kind_is = ap (λ (o : Outcome (Found Tree ℕ)). o >>= read_out) (value_kind s w left p e t)
+    kind_is = ap (λ (o : Outcome (Found Tree ℕ)). o >>= read_out) (value_kind s w left p e)
 
     pub value_array : {y : Outcome (Found Shown ℕ)} → h % 32 ≡ 0x1c → y ≡ decoded_array s w left (p + 1) → y ≡ decoded_at s w left p
     unfolding decoded_array
@@ -250,24 +241,19 @@ module _ (s : List ℕ) (w : Walk) (left p : ℕ) {x : HeadByteAnswer} (e : head
       plain_is : decoded_at s w left p ≡ (plain_at s w h (p + 1) >>= read_out)
       plain_is = kind_is ∙ ap (λ (o : Outcome (Found Tree ℕ)). o >>= read_out) (kind_plain s w (array_at s w left) (annotation_at s w left) h (p + 1) n m)
 
-      pub plain_unread : {z : NumberAnswer} {r : Refusal} → number_outcome z ≡ checked_at s w h (p + 1) → z ≡ N.Refused r → refused r ≡ decoded_at s w left p
+      pub plain_unread : {r : Refusal} → refused r ≡ checked_at s w h (p + 1) → refused r ≡ decoded_at s w left p
       unfolding plain_at
-      plain_unread f u = sym (plain_is ∙ bind_refused read_out (bind_refused _ (sym (sym (ap number_outcome u) ∙ f))))
+      plain_unread f = sym (plain_is ∙ bind_refused read_out (bind_refused _ (sym f)))
 
-      pub plain_read : {z : NumberAnswer} {v q : ℕ} {y : Shown} → number_outcome z ≡ checked_at s w h (p + 1) → z ≡ N.Got v q → y ≡ shown (plain_of (h % 32) (h / 32) v) → answer (record { item = y; next = q }) ≡ decoded_at s w left p
+      pub plain_read : {v q : ℕ} {y : Shown} → answer (record { item = v; next = q }) ≡ checked_at s w h (p + 1) → y ≡ shown (plain_of (h % 32) (h / 32) v) → answer (record { item = y; next = q }) ≡ decoded_at s w left p
       unfolding plain_at
-      plain_read {q = q} f u k = ap (λ (c : Shown). answer (record { item = c; next = q })) k ∙ sym (plain_is ∙ bind_answer read_out (bind_answer _ (sym (sym (ap number_outcome u) ∙ f))))
+      plain_read {q = q} f k = ap (λ (c : Shown). answer (record { item = c; next = q })) k ∙ sym (plain_is ∙ bind_answer read_out (bind_answer _ (sym f)))
 
     pub head_room : p < length s
-    head_room = (head_there s w.item p e t).room
+    head_room = (head_there s w.item p e).room
 
-    pub fitting : {z : NumberAnswer} {v q : ℕ} → Small h z → z ≡ N.Got v q → Fitting h v
-    fitting k u = record { known = (head_there s w.item p e t).known; small = k.small u }
-
--- ---- a call's answer, by the arm that was taken
-pub on_decoded : {B : Type 0} {x c : DecodedAnswer} {o : Outcome (Found Shown ℕ)} {y : Outcome B} (k : Found Shown ℕ → Outcome B)
-    → decoded_outcome x ≡ o → x ≡ c → y ≡ (decoded_outcome c >>= k) → y ≡ (o >>= k)
-on_decoded = said decoded_outcome
+    pub fitting : {v q : ℕ} → Small h (Ok (record { value = v; next = q })) → Fitting h v
+    fitting k = record { known = (head_there s w.item p e).known; small = k.small refl }
 
 pub ruleset kind_laws = (
   rest_float,
@@ -293,6 +279,6 @@ pub ruleset kind_laws = (
   rules,
 )
 
-pub ruleset body_laws = (array_after, array_some, annotation_some, array_read, array_unread, annotation_after, annotation_read, annotation_unread, rules)
+pub ruleset body_laws = (array_after, array_some, annotation_some, array_read, array_unread, annotation_after, annotation_read, annotation_unread, handed_on, rules)
 
-pub ruleset value_laws = (value_unread, value_array, value_annotation, plain_unread, plain_read, head_room, fitting, after_head, rules)
+pub ruleset value_laws = (value_unread, value_array, value_annotation, plain_unread, plain_read, head_room, fitting, after_head, handed_on, rules)

@@ -4,13 +4,13 @@ use Prim.Native.Nat.{ℕ}
 use mathlib.Core.Path.{◌≡◌, refl, ap, sym, ◌∙◌}
 use mathlib.Core.Bool.{cond}
 use lib.Dec.{eqb}
-use Rattle.refusal.specs.Outcome.{Outcome, answer, refused}
-use Rattle.refusal.specs.Rows.{Found}
-use Rattle.refusal.proofs.Laws.{one_to_one}
+use Rattle.std.specs.Prelude.{Result}
+use Rattle.refusal.specs.declared.Refusal.{Refusal}
+use Rattle.refusal.specs.declared.Read.{Read}
+use Rattle.refusal.proofs.Kept.{read_once}
 use Rattle.decoded_value.specs.Shown.{Content, integer, natural, floating, row_number, body, nothing, truth, Shown, value_shown}
 use Rattle.decoded_value.specs.Readings.{decoded_outcome}
 use Rattle.decoded_value.specs.declared.Value as Code
-use Rattle.decoded_value.specs.declared.DecodedAnswer as D
 
 -- the value of a kind with its content
 by_kind : ℕ → Content → Code.Value
@@ -51,14 +51,5 @@ value_back_told = value_told
 pub value_once : (x y : Code.Value) → value_shown x ≡ value_shown y → x ≡ y
 value_once x y e = sym (value_back_told x) ∙ ap value_back e ∙ value_back_told y
 
-decoded_back : Outcome (Found Shown ℕ) → D.DecodedAnswer
-decoded_back (answer r) = D.TheVariants.Got (value_back r.item) r.next
-decoded_back (refused r) = D.TheVariants.Refused r
-
-decoded_told : (x : D.DecodedAnswer) → decoded_back (decoded_outcome x) ≡ x
-unfolding decoded_back
-decoded_told (D.TheVariants.Got v n) = ap (λ (u : Code.Value). D.TheVariants.Got u n) (value_back_told v)
-decoded_told (D.TheVariants.Refused r) = refl
-
-pub decoded_once : (x y : D.DecodedAnswer) → decoded_outcome x ≡ decoded_outcome y → x ≡ y
-decoded_once = one_to_one decoded_outcome decoded_back decoded_told
+pub decoded_once : (x y : Result (Read Code.Value) Refusal) → decoded_outcome x ≡ decoded_outcome y → x ≡ y
+decoded_once = read_once value_shown value_back value_back_told

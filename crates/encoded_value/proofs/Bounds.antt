@@ -1,23 +1,20 @@
 -- Laws of the rules: a value or a body ends after its place and within the slice.
 -- Assumes nothing.
 use Prim.Native.Nat.{ℕ, ◌<◌, ◌≤◌}
-use mathlib.Core.Path.{◌≡◌, ap, sym, subst, ◌∙◌}
+use mathlib.Core.Path.{◌≡◌, sym, subst}
 use mathlib.Core.List.{List}
 use lib.ListN.{length}
 use native.Mathlib.Omega.{arith}
-use Rattle.refusal.specs.Outcome.{◌>>=◌}
+use Rattle.refusal.specs.Outcome.{answer, ◌>>=◌}
 use Rattle.refusal.specs.Rows.{Found, past}
 use Rattle.refusal.proofs.Rows.{past_answer}
 use Rattle.leb128.specs.Rules.{Uleb}
 use Rattle.leb128.proofs.Exactly.{uleb_exact}
 use Rattle.leb128.proofs.Laws.{uleb_span}
 use Rattle.value_heads.specs.declared.Walk.{Walk}
-use Rattle.encoded_value.specs.declared.StepAnswer.{StepAnswer}
-use Rattle.encoded_value.specs.declared.StepAnswer.TheVariants as S
 use Rattle.encoded_value.specs.Tree.{Tree, Named, Annotation}
 use Rattle.encoded_value.specs.Readings.{array_at, annotation_at}
 use Rattle.encoded_value.specs.Rules.{Value, an_array, an_annotation, no_body, ArrayBody, array_body, AnnotationBody, annotation_body, NamedValue, a_named, ValueRow, no_value, next_value, NamedRow, no_named, next_named}
-use Rattle.encoded_value.specs.Answers.{step_outcome}
 use Rattle.encoded_value.proofs.Layers.{Within, NamedWithin}
 use Rattle.encoded_value.proofs.Exactly.{array_exact, annotation_exact}
 
@@ -91,13 +88,13 @@ module _ (s : List ℕ) (w : Walk) where
   pub named_within_extent : (left : ℕ) → Ends s (NamedWithin s w left)
   named_within_extent left p e q h = named_span (a_named h.name_is h.value_is.0)
 
-  -- the same, from the arm that was taken
-  pub array_ends : (left p : ℕ) {x : StepAnswer} {q : ℕ} → step_outcome x ≡ (array_at s w left p >>= past) → x ≡ S.Next q → Extent s p q
-  array_ends left p e t =
-      let r = past_answer (array_at s w left p) (sym (ap step_outcome t) ∙ e) in
+  -- the same, from what a call answered
+  pub array_ends : (left p : ℕ) {q : ℕ} → answer q ≡ (array_at s w left p >>= past) → Extent s p q
+  array_ends left p e =
+      let r = past_answer (array_at s w left p) e in
       subst (Extent s p) r.1.1 (array_span ((array_exact s w left p).sound r.0 (sym r.1.0)).0)
 
-  pub annotation_ends : (left p : ℕ) {x : StepAnswer} {q : ℕ} → step_outcome x ≡ (annotation_at s w left p >>= past) → x ≡ S.Next q → Extent s p q
-  annotation_ends left p e t =
-      let r = past_answer (annotation_at s w left p) (sym (ap step_outcome t) ∙ e) in
+  pub annotation_ends : (left p : ℕ) {q : ℕ} → answer q ≡ (annotation_at s w left p >>= past) → Extent s p q
+  annotation_ends left p e =
+      let r = past_answer (annotation_at s w left p) e in
       subst (Extent s p) r.1.1 (annotation_span ((annotation_exact s w left p).sound r.0 (sym r.1.0)).0)

@@ -11,23 +11,14 @@ use Rattle.refusal.specs.Refusals.{nested_too_deep}
 use Rattle.refusal.specs.declared.Refusal.{Refusal}
 use Rattle.refusal.specs.Outcome.{Outcome, answer, refused, ◌>>=◌}
 use Rattle.refusal.specs.Rows.{Found, past, repeat, collect}
-use Rattle.refusal.proofs.Laws.{bind_answer, bind_refused, refused_by, picks, leaves, Walk as Loop, walk_next, walk_stop, walk_done}
+use Rattle.refusal.proofs.Laws.{bind_answer, bind_refused, refused_by, handed_on, picks, leaves, Walk as Loop, walk_start, walk_next, walk_stop, walk_done}
 use Rattle.refusal.proofs.Rows.{bind_assoc, past_collect}
 use Rattle.leb128.specs.Leb.{uleb_at}
-use Rattle.leb128.specs.Answers.{leb_outcome}
-use Rattle.leb128.specs.declared.LebAnswer.{LebAnswer}
-use Rattle.leb128.specs.declared.LebAnswer.TheVariants as L
 use Rattle.value_heads.specs.declared.Walk.{Walk}
 use Rattle.value_heads.specs.Readings.{head_byte_at, index_at}
-use Rattle.value_heads.specs.Answers.{head_byte_outcome}
 use Rattle.value_heads.proofs.Laws.{after_head}
-use Rattle.encoded_value.specs.declared.StepAnswer.{StepAnswer}
-use Rattle.encoded_value.specs.declared.StepAnswer.TheVariants as S
-use Rattle.value_heads.specs.declared.HeadByteAnswer.{HeadByteAnswer}
-use Rattle.value_heads.specs.declared.HeadByteAnswer.TheVariants as H
 use Rattle.encoded_value.specs.Tree.{Tree, Named, Annotation}
 use Rattle.encoded_value.specs.Readings.{plain_at, start_at, array_with, named_with, annotation_with, as_array, as_annotation, kind_with, value_with, value_at, array_at, annotation_at, past_value, past_array, past_annotation, past_named, past_plain}
-use Rattle.encoded_value.specs.Answers.{step_outcome}
 use Rattle.encoded_value.specs.Stages.{index_past, past_opened, past_inside, past_inner, past_values, past_body}
 use Rattle.encoded_value.proofs.Leaves.{past_made}
 
@@ -62,20 +53,20 @@ module _ (s : List ℕ) (w : Walk) where
     unfolding kind_with
     kind_plain n m = rw (ne_eqb (h % 32) 0x1c n, ne_eqb (h % 32) 0x1d m)
 
-  module _ (left p : ℕ) {x : HeadByteAnswer} (e : head_byte_outcome x ≡ head_byte_at s w.item p) where
-    pub no_value : {r : Refusal} → x ≡ H.Refused r → value_at s w left p ≡ refused r
+  module _ (left p : ℕ) where
+    pub no_value : {r : Refusal} → refused r ≡ head_byte_at s w.item p → value_at s w left p ≡ refused r
     unfolding value_with
-    no_value t = ap (λ (f : ℕ → Outcome (Found Tree ℕ)). f p) (value_open left) ∙ bind_refused _ (sym (sym (ap head_byte_outcome t) ∙ e))
+    no_value e = ap (λ (f : ℕ → Outcome (Found Tree ℕ)). f p) (value_open left) ∙ bind_refused _ (sym e)
 
-    pub value_refused : {r : Refusal} → x ≡ H.Refused r → refused r ≡ past_value s w left p
-    value_refused t = sym (bind_refused past (no_value t))
+    pub value_refused : {r : Refusal} → refused r ≡ head_byte_at s w.item p → refused r ≡ past_value s w left p
+    value_refused e = sym (bind_refused past (no_value e))
 
-    pub value_kind : {h : ℕ} → x ≡ H.Got h → value_at s w left p ≡ kind_with s w (array_at s w left) (annotation_at s w left) h (p + 1)
+    pub value_kind : {h : ℕ} → answer h ≡ head_byte_at s w.item p → value_at s w left p ≡ kind_with s w (array_at s w left) (annotation_at s w left) h (p + 1)
     unfolding value_with
-    value_kind t = ap (λ (f : ℕ → Outcome (Found Tree ℕ)). f p) (value_open left) ∙ bind_answer _ (sym (sym (ap head_byte_outcome t) ∙ e))
+    value_kind e = ap (λ (f : ℕ → Outcome (Found Tree ℕ)). f p) (value_open left) ∙ bind_answer _ (sym e)
 
-    pub value_inside : {h : ℕ} {y : Outcome ℕ} → x ≡ H.Got h → y ≡ past_inside s w left h (p + 1) → y ≡ past_value s w left p
-    value_inside t k = k ∙ sym (ap (λ (o : Outcome (Found Tree ℕ)). o >>= past) (value_kind t))
+    pub value_inside : {h : ℕ} {y : Outcome ℕ} → answer h ≡ head_byte_at s w.item p → y ≡ past_inside s w left h (p + 1) → y ≡ past_value s w left p
+    value_inside e k = k ∙ sym (ap (λ (o : Outcome (Found Tree ℕ)). o >>= past) (value_kind e))
 
   -- ---- the body that a code opens
   module _ (left code p : ℕ) {y : Outcome ℕ} where
@@ -155,19 +146,19 @@ module _ (s : List ℕ) (w : Walk) where
         ∙ sym (bind_assoc (index_at s w.item w.types p) past _)
 
     -- ---- a body begins
-    module _ (named : Bool) {x : StepAnswer} (e : step_outcome x ≡ index_past s w.item named w.types p) where
-      pub front_refused : {r : Refusal} → x ≡ S.Refused r → refused r ≡ past_body s w named left p
-      front_refused t = sym (body_is named ∙ bind_refused _ (sym (sym (ap step_outcome t) ∙ e)))
+    module _ (named : Bool) where
+      pub front_refused : {r : Refusal} → refused r ≡ index_past s w.item named w.types p → refused r ≡ past_body s w named left p
+      front_refused e = sym (body_is named ∙ bind_refused _ (sym e))
 
-      module _ {q : ℕ} (t : x ≡ S.Next q) where
+      module _ {q : ℕ} (e : answer q ≡ index_past s w.item named w.types p) where
         sized : past_body s w named left p ≡ (uleb_at s w.item q >>= λ (n : Found ℕ ℕ). past_values s w named (left - 1) n.item n.next)
-        sized = body_is named ∙ bind_answer _ (sym (sym (ap step_outcome t) ∙ e))
+        sized = body_is named ∙ bind_answer _ (sym e)
 
-        pub size_refused : {y : LebAnswer} {r : Refusal} → leb_outcome y ≡ uleb_at s w.item q → y ≡ L.Refused r → refused r ≡ past_body s w named left p
-        size_refused g u = sym (sized ∙ bind_refused _ (sym (sym (ap leb_outcome u) ∙ g)))
+        pub size_refused : {r : Refusal} → refused r ≡ uleb_at s w.item q → refused r ≡ past_body s w named left p
+        size_refused g = sym (sized ∙ bind_refused _ (sym g))
 
-        pub size_got : {y : LebAnswer} {n m : ℕ} {z : Outcome ℕ} → leb_outcome y ≡ uleb_at s w.item q → y ≡ L.Got n m → z ≡ past_values s w named (left - 1) n m → z ≡ past_body s w named left p
-        size_got g u k = k ∙ sym (sized ∙ bind_answer _ (sym (sym (ap leb_outcome u) ∙ g)))
+        pub size_got : {n m : ℕ} {z : Outcome ℕ} → answer (record { item = n; next = m }) ≡ uleb_at s w.item q → z ≡ past_values s w named (left - 1) n m → z ≡ past_body s w named left p
+        size_got g k = k ∙ sym (sized ∙ bind_answer _ (sym g))
 
   -- ---- the two bodies by their names
   module _ (left p : ℕ) {y : Outcome ℕ} where
@@ -180,46 +171,44 @@ module _ (s : List ℕ) (w : Walk) where
     annotation_by e = e
 
 -- ---- the loop over the values of a body: what is left to do says what the whole says
-pub record Values (s : List ℕ) (w : Walk) (named : Bool) (left from count more p : ℕ) : Type 0 where
-  loop : Loop (past_values s w named left count from) (past_inner s w named left) more p
+pub record Values (s : List ℕ) (w : Walk) (named : Bool) (left from count turn p : ℕ) : Type 0 where
+  loop : Loop (past_values s w named left count from) (past_inner s w named left) count turn p
 
-pub values_first : (s : List ℕ) (w : Walk) (named : Bool) (left from count : ℕ) → Values s w named left from count count from
-values_first s w named left from count = record { loop = record { same = refl } }
+pub values_first : (s : List ℕ) (w : Walk) (named : Bool) (left from count : ℕ) → Values s w named left from count 0 from
+values_first s w named left from count = record { loop = walk_start (past_inner s w named left) count from }
 
-pub values_done : {s : List ℕ} {w : Walk} {named : Bool} {left from count more p : ℕ} → Values s w named left from count more p → more ≤ 0 → answer p ≡ past_values s w named left count from
+pub values_done : {s : List ℕ} {w : Walk} {named : Bool} {left from count turn p : ℕ} → Values s w named left from count turn p → count ≤ turn → answer p ≡ past_values s w named left count from
 values_done h l = walk_done h.loop l
 
 -- ---- one turn
-module _ {s : List ℕ} {w : Walk} {named : Bool} {left from count more p : ℕ} (h : Values s w named left from count more p) (l : 0 < more)
-    {x : StepAnswer} (e : step_outcome x ≡ index_past s w.item named w.strings p) where
-  pub name_stop : {r : Refusal} → x ≡ S.Refused r → refused r ≡ past_values s w named left count from
+module _ {s : List ℕ} {w : Walk} {named : Bool} {left from count turn p : ℕ} (h : Values s w named left from count turn p) (l : turn < count) where
+  pub name_stop : {r : Refusal} → refused r ≡ index_past s w.item named w.strings p → refused r ≡ past_values s w named left count from
   unfolding past_inner
-  name_stop t = walk_stop h.loop l (sym (bind_refused _ (sym (sym (ap step_outcome t) ∙ e))))
+  name_stop e = walk_stop h.loop l (sym (bind_refused _ (sym e)))
 
-  module _ {at : ℕ} (t : x ≡ S.Next at) where
+  module _ {at : ℕ} (e : answer at ≡ index_past s w.item named w.strings p) where
     inner : past_inner s w named left p ≡ past_value s w left at
     unfolding past_inner
-    inner = bind_answer _ (sym (sym (ap step_outcome t) ∙ e))
+    inner = bind_answer _ (sym e)
 
-    turn_on : {q : ℕ} → answer q ≡ past_value s w left at → Values s w named left from count (more - 1) q
+    turn_on : {q : ℕ} → answer q ≡ past_value s w left at → Values s w named left from count (turn + 1) q
     turn_on k = record { loop = walk_next h.loop l (k ∙ sym inner) }
 
     turn_off : {r : Refusal} → refused r ≡ past_value s w left at → refused r ≡ past_values s w named left count from
     turn_off k = walk_stop h.loop l (k ∙ sym inner)
 
     -- a value: its head byte, and what stands behind it
-    module _ {y : HeadByteAnswer} (g : head_byte_outcome y ≡ head_byte_at s w.item at) where
-      pub head_stop : {r : Refusal} → y ≡ H.Refused r → refused r ≡ past_values s w named left count from
-      head_stop u = turn_off (value_refused s w left at g u)
+    pub head_stop : {r : Refusal} → refused r ≡ head_byte_at s w.item at → refused r ≡ past_values s w named left count from
+    head_stop g = turn_off (value_refused s w left at g)
 
-      module _ {b : ℕ} (u : y ≡ H.Got b) {z : StepAnswer} (k : step_outcome z ≡ past_inside s w left b (at + 1)) where
-        pub inside_turn : {q : ℕ} → z ≡ S.Next q → Values s w named left from count (more - 1) q
-        inside_turn v = turn_on (value_inside s w left at g u (sym (ap step_outcome v) ∙ k))
+    module _ {b : ℕ} (g : answer b ≡ head_byte_at s w.item at) where
+      pub inside_turn : {q : ℕ} → answer q ≡ past_inside s w left b (at + 1) → Values s w named left from count (turn + 1) q
+      inside_turn k = turn_on (value_inside s w left at g k)
 
-        pub inside_stop : {r : Refusal} → z ≡ S.Refused r → refused r ≡ past_values s w named left count from
-        inside_stop v = turn_off (value_inside s w left at g u (sym (ap step_outcome v) ∙ k))
+      pub inside_stop : {r : Refusal} → refused r ≡ past_inside s w left b (at + 1) → refused r ≡ past_values s w named left count from
+      inside_stop k = turn_off (value_inside s w left at g k)
 
-pub ruleset cycle_laws = (after_head, array_by, annotation_by, opened_array, opened_annotation, inside_array, inside_annotation, inside_plain, body_deep, front_refused, size_refused, size_got, values_first, values_done, name_stop, head_stop, inside_turn, inside_stop, rules)
+pub ruleset cycle_laws = (after_head, array_by, annotation_by, opened_array, opened_annotation, inside_array, inside_annotation, inside_plain, body_deep, front_refused, size_refused, size_got, values_first, values_done, name_stop, head_stop, inside_turn, inside_stop, handed_on, rules)
 
 -- what a value by itself is searched with
-pub ruleset value_laws = (after_head, value_refused, value_inside, inside_array, inside_annotation, inside_plain, rules)
+pub ruleset value_laws = (after_head, value_refused, value_inside, inside_array, inside_annotation, inside_plain, handed_on, rules)

@@ -11,20 +11,14 @@ use Rattle.refusal.specs.Refusals.{runs_past, wrong_index}
 use Rattle.refusal.specs.declared.Refusal.{Refusal}
 use Rattle.refusal.specs.Outcome.{Outcome, answer, refused, ◌>>=◌, given}
 use Rattle.refusal.specs.Rows.{Found, past}
-use Rattle.refusal.proofs.Laws.{said, tests, calls, bind_answer, bind_refused}
-use Rattle.leb128.proofs.Laws.{on_leb}
+use Rattle.refusal.proofs.Laws.{tests, calls, handed_on, bind_answer, bind_refused}
 use Rattle.value_heads.specs.declared.Walk.{Walk}
-use Rattle.value_heads.specs.declared.NumberAnswer.{NumberAnswer}
-use Rattle.value_heads.specs.declared.NumberAnswer.TheVariants as N
 use Rattle.value_heads.specs.Kinds.{bytes_of, is_index, in_range}
 use Rattle.value_heads.specs.Readings.{number_at, checked_at, index_at}
-use Rattle.value_heads.specs.Answers.{number_outcome}
 use Rattle.word.proofs.Laws.{room_fits}
 use Rattle.value_heads.proofs.Laws.{number_got, number_short, range_other}
-use Rattle.encoded_value.specs.declared.StepAnswer.{StepAnswer}
 use Rattle.encoded_value.specs.Readings.{plain_at}
 use Rattle.encoded_value.specs.Stages.{index_past}
-use Rattle.encoded_value.specs.Answers.{step_outcome}
 
 -- ---- the bytes behind a head byte
 module _ (s : List ℕ) (item at h : ℕ) {n : ℕ} (size : n ≡ bytes_of h) {t : Bool} (room : t ≡ leb (at + n) (length s)) where
@@ -49,14 +43,13 @@ always test place (answer n) h = rw (h n.item)
 always test place (refused r) h = refl
 
 module _ (s : List ℕ) (w : Walk) (h at : ℕ) where
-  module _ {x : NumberAnswer} (e : number_outcome x ≡ checked_at s w h at) where
-    pub plain_got : {v n : ℕ} → x ≡ N.Got v n → answer n ≡ (plain_at s w h at >>= past)
-    unfolding plain_at
-    plain_got t = sym (bind_answer past (sym (sym (ap number_outcome t) ∙ e))) ∙ past_made _ (checked_at s w h at)
+  pub plain_got : {v n : ℕ} → answer (record { item = v; next = n }) ≡ checked_at s w h at → answer n ≡ (plain_at s w h at >>= past)
+  unfolding plain_at
+  plain_got e = sym (bind_answer past (sym e)) ∙ past_made _ (checked_at s w h at)
 
-    pub plain_refused : {r : Refusal} → x ≡ N.Refused r → refused r ≡ (plain_at s w h at >>= past)
-    unfolding plain_at
-    plain_refused t = sym (bind_refused past (sym (sym (ap number_outcome t) ∙ e))) ∙ past_made _ (checked_at s w h at)
+  pub plain_refused : {r : Refusal} → refused r ≡ checked_at s w h at → refused r ≡ (plain_at s w h at >>= past)
+  unfolding plain_at
+  plain_refused e = sym (bind_refused past (sym e)) ∙ past_made _ (checked_at s w h at)
 
   pub plain_other : {i : Bool} {y : Outcome ℕ} → i ≡ is_index (h % 32) → i ≡ false → y ≡ (number_at s w.item at (bytes_of h) >>= past) → y ≡ (plain_at s w h at >>= past)
   unfolding plain_at checked_at
@@ -64,15 +57,10 @@ module _ (s : List ℕ) (w : Walk) (h at : ℕ) where
       k ∙ ap (λ (o : Outcome (Found ℕ ℕ)). o >>= past) (always (in_range w (h % 32)) w.item (number_at s w.item at (bytes_of h)) (λ x. sym (range_other w (h % 32) x e t)))
       ∙ past_made _ (checked_at s w h at)
 
--- ---- a call's answer, by the arm that was taken
-pub on_step : {B : Type 0} {x c : StepAnswer} {o : Outcome ℕ} {y : Outcome B} (k : ℕ → Outcome B)
-    → step_outcome x ≡ o → x ≡ c → y ≡ (step_outcome c >>= k) → y ≡ (o >>= k)
-on_step = said step_outcome
-
 -- what the functions outside the cycle are searched with
 pub ruleset bytes_laws = (bytes_there, bytes_short, room_fits, rules)
 
-pub ruleset plain_laws = (plain_got, plain_refused, plain_other, rules)
+pub ruleset plain_laws = (handed_on, plain_got, plain_refused, plain_other, rules)
 
 -- an index that is there in an annotation alone
 module _ (s : List ℕ) (item count p : ℕ) {named : Bool} where
@@ -84,6 +72,6 @@ module _ (s : List ℕ) (item count p : ℕ) {named : Bool} where
   unfolding index_past
   index_named e h = rw e h
 
-pub ruleset index_laws = (index_none, index_named, on_leb, calls, rules)
+pub ruleset index_laws = (index_none, index_named, calls, rules)
 
-pub ruleset start_laws = (on_leb, calls, tests, rules)
+pub ruleset start_laws = (calls, tests, rules)

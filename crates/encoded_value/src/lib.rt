@@ -94,8 +94,7 @@ fn values_past(
     for _ in 0..count {
         let at = index_past(s, w.item, named, w.strings, p)?;
         let head = value_heads::head_at(s, w.item, at)?;
-        let q = inside_past(s, w, head, at + 1, left)?;
-        p = q;
+        p = inside_past(s, w, head, at + 1, left)?;
     }
     Ok(p)
 }

@@ -19,11 +19,11 @@ overflow_add-at c = search laws
 pub plain_of-requires : goal.plain_of-requires
 plain_of-requires c = search laws
 
-pub returns-in-Refused : goal.returns-in-Refused
-returns-in-Refused c = search laws
+pub returns-in_err-head : goal.returns-in_err-head
+returns-in_err-head c = search laws
 
-pub returns-in-Refused-checked_number : goal.returns-in-Refused-checked_number
-returns-in-Refused-checked_number c = search laws
+pub returns-in_err-value : goal.returns-in_err-value
+returns-in_err-value c = search laws
 
-pub returns-in-Got-checked_number : goal.returns-in-Got-checked_number
-returns-in-Got-checked_number c = search laws
+pub returns : goal.returns
+returns c = search laws

@@ -1,6 +1,5 @@
 use lib.Ieee.{binary64}
 use Rattle.decoded_value.proofs.Floats.{nan_of, number_exponent, number_digits}
-use Rattle.std.proofs.Common.{true, false}
 use Rattle.decoded_value.proofs.f64_of.Goals as goal
 use Rattle.decoded_value.proofs.f64_of.Goals.{then-bits-eq2047+else-bits-ne0, else-bits-eq2047}
 

@@ -20,8 +20,5 @@ decreases-opened_past l = 5 * l.left + 2
 abbrev pub decreases-values_past : goal.decreases-values_past
 decreases-values_past l = 5 * l.left + 4
 
-abbrev pub invariant-values_past-loop-more : goal.invariant-values_past-loop-more
-invariant-values_past-loop-more l = Values l.s l.w l.named l.left l.from l.count l.more l.p
-
-abbrev pub decreases-values_past-loop-more : goal.decreases-values_past-loop-more
-decreases-values_past-loop-more l = l.more
+abbrev pub invariant-values_past-loop : goal.invariant-values_past-loop
+invariant-values_past-loop l = Values l.s l.w l.named l.left l.from l.count l.counter l.p

@@ -2,10 +2,10 @@ use Rattle.encoded_value.proofs.Leaves.{start_laws as laws}
 use Rattle.encoded_value.specs.Readings.{start_at}
 use Rattle.encoded_value.proofs.annotation_start.Goals as goal
 
-pub returns-in-Refused : goal.returns-in-Refused
+pub returns-in_err-next : goal.returns-in_err-next
 unfolding start_at
-returns-in-Refused c = search laws
+returns-in_err-next c = search laws
 
-pub returns-in-Got : goal.returns-in-Got
+pub returns : goal.returns
 unfolding start_at
-returns-in-Got c = search laws
+returns c = search laws

@@ -1,11 +1,11 @@
 use Rattle.encoded_value.proofs.Leaves.{plain_laws as laws}
 use Rattle.encoded_value.proofs.plain_past.Goals as goal
 
-pub returns-in-Refused : goal.returns-in-Refused
-returns-in-Refused c = search laws
-
-pub returns-in-Got : goal.returns-in-Got
-returns-in-Got c = search laws
-
 pub returns : goal.returns
 returns c = search laws
+
+pub returns-in_err-next : goal.returns-in_err-next
+returns-in_err-next c = search laws
+
+pub returns-then-is_index_code : goal.returns-then-is_index_code
+returns-then-is_index_code c = search laws
