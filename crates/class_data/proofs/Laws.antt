@@ -13,53 +13,17 @@ use Rattle.refusal.specs.Refusals.{not_there}
 use Rattle.refusal.specs.declared.Refusal.{Refusal}
 use Rattle.refusal.specs.Outcome.{Outcome, answer, refused, ◌>>=◌, given}
 use Rattle.refusal.specs.Rows.{Found}
-use Rattle.refusal.proofs.Laws.{said, tests, calls, bind_answer, passes, fails}
+use Rattle.refusal.proofs.Laws.{tests, calls, bind_answer, passes, fails}
 use Rattle.refusal.proofs.Rows.{bind_assoc}
-use Rattle.leb128.proofs.Laws.{on_leb}
 use Rattle.frame.specs.declared.Frame.{Frame}
 use Rattle.class_members.specs.declared.Member.{Member}
 use Rattle.class_members.specs.declared.MemberJudge.{MemberJudge}
 use Rattle.class_members.specs.Members.{nobody, members_at, kept_members}
-use Rattle.class_members.proofs.Laws.{on_found, members_by}
+use Rattle.class_members.proofs.Laws.{members_by}
 use Rattle.class_data.specs.declared.Counts.{Counts}
 use Rattle.class_data.specs.declared.KeptMembers.{KeptMembers}
-use Rattle.class_data.specs.declared.TwoNumbersAnswer.{TwoNumbersAnswer}
-use Rattle.class_data.specs.declared.CountsAnswer.{CountsAnswer}
-use Rattle.class_data.specs.declared.TwoMembersAnswer.{TwoMembersAnswer}
-use Rattle.class_data.specs.declared.KeptDataAnswer.{KeptDataAnswer}
 use Rattle.class_data.specs.declared.Methods.{Methods}
-use Rattle.class_data.specs.declared.MethodsAnswer.{MethodsAnswer}
-use Rattle.class_data.specs.declared.DataAnswer.{DataAnswer}
-use Rattle.class_data.specs.declared.MemberAnswer.{MemberAnswer}
-use Rattle.class_data.specs.Data.{Both, counts_at, Two, two_at, fields_judge, methods_judge, ClassData, class_data_at, counts, extent_at, methods_at, one_of_four, list_of, member_of_list, KeptTwo, kept_two, KeptData, kept_data_at, methods_from, count_in, member_in}
-use Rattle.class_data.specs.Answers.{two_numbers_outcome, counts_outcome, two_outcome, kept_data_outcome, data_outcome, member_outcome, methods_outcome}
-
--- ---- calls, by the arm that was taken
-pub on_pair : {B : Type 0} {x c : TwoNumbersAnswer} {o : Outcome (Found Both ℕ)} {y : Outcome B} (k : Found Both ℕ → Outcome B)
-    → two_numbers_outcome x ≡ o → x ≡ c → y ≡ (two_numbers_outcome c >>= k) → y ≡ (o >>= k)
-on_pair = said two_numbers_outcome
-
-pub on_counts : {B : Type 0} {x c : CountsAnswer} {o : Outcome (Found Counts ℕ)} {y : Outcome B} (k : Found Counts ℕ → Outcome B)
-    → counts_outcome x ≡ o → x ≡ c → y ≡ (counts_outcome c >>= k) → y ≡ (o >>= k)
-on_counts = said counts_outcome
-
-pub on_two : {B : Type 0} {x c : TwoMembersAnswer} {o : Outcome KeptTwo} {y : Outcome B} (k : KeptTwo → Outcome B) → two_outcome x ≡ o → x ≡ c → y ≡ (two_outcome c >>= k) → y ≡ (o >>= k)
-on_two = said two_outcome
-
-pub on_kept : {B : Type 0} {x c : KeptDataAnswer} {o : Outcome KeptData} {y : Outcome B} (k : KeptData → Outcome B) → kept_data_outcome x ≡ o → x ≡ c → y ≡ (kept_data_outcome c >>= k) → y ≡ (o >>= k)
-on_kept = said kept_data_outcome
-
-pub on_data : {B : Type 0} {x c : DataAnswer} {o : Outcome (Found Counts ℕ)} {y : Outcome B} (k : Found Counts ℕ → Outcome B)
-    → data_outcome x ≡ o → x ≡ c → y ≡ (data_outcome c >>= k) → y ≡ (o >>= k)
-on_data = said data_outcome
-
-pub on_member : {B : Type 0} {x c : MemberAnswer} {o : Outcome Member} {y : Outcome B} (k : Member → Outcome B)
-    → member_outcome x ≡ o → x ≡ c → y ≡ (member_outcome c >>= k) → y ≡ (o >>= k)
-on_member = said member_outcome
-
-pub on_methods : {B : Type 0} {x c : MethodsAnswer} {o : Outcome Methods} {y : Outcome B} (k : Methods → Outcome B)
-    → methods_outcome x ≡ o → x ≡ c → y ≡ (methods_outcome c >>= k) → y ≡ (o >>= k)
-on_methods = said methods_outcome
+use Rattle.class_data.specs.Data.{counts_at, Two, two_at, fields_judge, methods_judge, ClassData, class_data_at, counts, extent_at, methods_at, one_of_four, list_of, member_of_list, KeptTwo, kept_two, KeptData, kept_data_at, methods_from, count_in, member_in}
 
 -- ---- the stages: of each list one member and the count are kept
 module _ (s : List ℕ) (item k : ℕ) {B : Type 0} where
@@ -168,9 +132,6 @@ module _ (list k : ℕ) (c : Counts) (m : KeptMembers) {n : ℕ} (e : n ≡ coun
   member_lacks p made = fails _ made (le-ltb k (count_in list c) (omega arith))
 
 -- ---- what this crate's functions are searched with
-pub ruleset part_laws = (on_leb, on_found, on_pair, calls, tests, rules)
+pub ruleset part_laws = (calls, tests, rules)
 
-pub ruleset stage_laws = (on_counts, on_two, on_kept, extent_by, methods_by, member_by, member_there, member_lacks, calls, tests, rules)
-
--- what a caller's functions are
-pub ruleset laws = (on_data, on_member, on_found, on_methods)
+pub ruleset stage_laws = (extent_by, methods_by, member_by, member_there, member_lacks, calls, tests, rules)

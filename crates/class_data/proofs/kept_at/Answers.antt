@@ -2,18 +2,18 @@ use Rattle.class_data.proofs.Laws.{stage_laws as laws}
 use Rattle.class_data.specs.Data.{kept_data_at}
 use Rattle.class_data.proofs.kept_at.Goals as goal
 
-pub returns-in-Refused : goal.returns-in-Refused
+pub returns-in_err-counts : goal.returns-in_err-counts
 unfolding kept_data_at
-returns-in-Refused c = search laws depth 9
+returns-in_err-counts c = search laws depth 9
 
-pub returns-in-Refused-two_at : goal.returns-in-Refused-two_at
+pub returns-in_err-statics : goal.returns-in_err-statics
 unfolding kept_data_at
-returns-in-Refused-two_at c = search laws depth 9
+returns-in_err-statics c = search laws depth 9
 
-pub returns-in-Refused-two_at-2 : goal.returns-in-Refused-two_at-2
+pub returns-in_err-directs : goal.returns-in_err-directs
 unfolding kept_data_at
-returns-in-Refused-two_at-2 c = search laws depth 9
+returns-in_err-directs c = search laws depth 9
 
-pub returns-in-Got-two_at-2 : goal.returns-in-Got-two_at-2
+pub returns : goal.returns
 unfolding kept_data_at
-returns-in-Got-two_at-2 c = search laws depth 9
+returns c = search laws depth 9

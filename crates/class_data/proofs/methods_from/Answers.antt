@@ -2,10 +2,10 @@ use Rattle.class_data.proofs.Laws.{stage_laws as laws}
 use Rattle.class_data.specs.Data.{methods_from}
 use Rattle.class_data.proofs.methods_from.Goals as goal
 
-pub returns-in-Refused : goal.returns-in-Refused
+pub returns-in_err-two_at : goal.returns-in_err-two_at
 unfolding methods_from
-returns-in-Refused c = search laws
+returns-in_err-two_at c = search laws
 
-pub returns-in-Got : goal.returns-in-Got
+pub returns : goal.returns
 unfolding methods_from
-returns-in-Got c = search laws
+returns c = search laws

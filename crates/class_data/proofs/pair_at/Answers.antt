@@ -2,14 +2,14 @@ use Rattle.class_data.proofs.Laws.{part_laws as laws}
 use Rattle.class_data.specs.Data.{two_numbers_at}
 use Rattle.class_data.proofs.pair_at.Goals as goal
 
-pub returns-in-Refused : goal.returns-in-Refused
+pub returns-in_err-first : goal.returns-in_err-first
 unfolding two_numbers_at
-returns-in-Refused c = search laws depth 7
+returns-in_err-first c = search laws depth 7
 
-pub returns-in-Refused-uleb : goal.returns-in-Refused-uleb
+pub returns-in_err-second : goal.returns-in_err-second
 unfolding two_numbers_at
-returns-in-Refused-uleb c = search laws depth 7
+returns-in_err-second c = search laws depth 7
 
-pub returns-in-Got-uleb : goal.returns-in-Got-uleb
+pub returns : goal.returns
 unfolding two_numbers_at
-returns-in-Got-uleb c = search laws depth 7
+returns c = search laws depth 7

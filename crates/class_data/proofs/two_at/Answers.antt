@@ -2,14 +2,14 @@ use Rattle.class_data.proofs.Laws.{part_laws as laws}
 use Rattle.class_data.specs.Data.{kept_two}
 use Rattle.class_data.proofs.two_at.Goals as goal
 
-pub returns-in-Refused : goal.returns-in-Refused
+pub returns-in_err-first : goal.returns-in_err-first
 unfolding kept_two
-returns-in-Refused c = search laws depth 7
+returns-in_err-first c = search laws depth 7
 
-pub returns-in-Refused-members_at : goal.returns-in-Refused-members_at
+pub returns-in_err-second : goal.returns-in_err-second
 unfolding kept_two
-returns-in-Refused-members_at c = search laws depth 7
+returns-in_err-second c = search laws depth 7
 
-pub returns-in-Got-members_at : goal.returns-in-Got-members_at
+pub returns : goal.returns
 unfolding kept_two
-returns-in-Got-members_at c = search laws depth 7
+returns c = search laws depth 7

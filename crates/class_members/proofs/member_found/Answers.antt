@@ -10,10 +10,10 @@ pub returns-then-is_apart : goal.returns-then-is_apart
 unfolding member_at
 returns-then-is_apart c = search laws depth 7
 
-pub returns-in-Refused : goal.returns-in-Refused
+pub returns-in_err-value : goal.returns-in_err-value
 unfolding member_at
-returns-in-Refused c = search laws depth 7
+returns-in_err-value c = search laws depth 7
 
-pub returns-else-is_apart : goal.returns-else-is_apart
+pub returns : goal.returns
 unfolding member_at
-returns-else-is_apart c = search laws depth 7
+returns c = search laws depth 7

@@ -6,10 +6,10 @@ pub returns-then-is_allowed_or_absent : goal.returns-then-is_allowed_or_absent
 unfolding offset_at
 returns-then-is_allowed_or_absent c = search laws depth 7
 
-pub returns-in-Refused : goal.returns-in-Refused
+pub returns-in_err-value : goal.returns-in_err-value
 unfolding offset_at
-returns-in-Refused c = search laws depth 7
+returns-in_err-value c = search laws depth 7
 
-pub returns-else-is_allowed_or_absent : goal.returns-else-is_allowed_or_absent
+pub returns : goal.returns
 unfolding offset_at
-returns-else-is_allowed_or_absent c = search laws depth 7
+returns c = search laws depth 7
