@@ -31,35 +31,39 @@ fill_step out vs i v h =
     let same : i + suc (length vs) ≡ suc i + length vs = omega arith in
     rw (add-one i, take-suc-set out i v h, drop-set-lt (suc i) out i v (omega arith), drop-drop (suc (length vs)) i out, drop-drop (length vs) (suc i) out, append_assoc, same)
 
--- i units are written, `left` are still to be
-pub record Filling (o : Endian) (s : List ℕ) (start count : ℕ) (before out : List ℕ) (p i left : ℕ) : Type 0 where
-  same : filled (units_at o s start count) before ≡ take i out ++ filled (units_at o s p left) (drop i out)
+-- i units are written
+pub record Filling (o : Endian) (s : List ℕ) (start count : ℕ) (before out : List ℕ) (p i : ℕ) : Type 0 where
+  same : filled (units_at o s start count) before ≡ take i out ++ filled (units_at o s p (count - i)) (drop i out)
   pub long : length out ≡ length before
-  pub room : i + left ≤ length out
-  pub there : p + 2 * left ≤ length s
+  pub room : count ≤ length out
+  pub there : p + 2 * (count - i) ≤ length s
 
-pub filling_first : (o : Endian) (s : List ℕ) (start count : ℕ) (out : List ℕ) → start + 2 * count ≤ length s → count ≤ length out → Filling o s start count out out start 0 count
-filling_first o s start count out h k = record { same = refl; long = refl; room = omega arith; there = h }
+pub filling_first : (o : Endian) (s : List ℕ) (start count : ℕ) (out : List ℕ) → start + 2 * count ≤ length s → count ≤ length out → Filling o s start count out out start 0
+filling_first o s start count out h k =
+    let all : count ≡ count - 0 = omega arith in
+    record { same = ap (λ (n : ℕ). filled (units_at o s start n) out) all; long = refl; room = k; there = omega arith }
 
-module _ {o : Endian} {s : List ℕ} {start count : ℕ} {before out : List ℕ} {p i left : ℕ} (f : Filling o s start count before out p i left) where
-  pub filling_in : 0 < left → i < length out
+module _ {o : Endian} {s : List ℕ} {start count : ℕ} {before out : List ℕ} {p i : ℕ} (f : Filling o s start count before out p i) where
+  pub filling_in : i < count → i < length out
   filling_in q = let z = f.room in omega arith
 
-  pub filling_in₀ : 0 < left → i < length before
+  pub filling_in₀ : i < count → i < length before
   filling_in₀ q = let z = f.room in let y = f.long in omega arith
 
-  pub filling_next : {v : ℕ} → 0 < left → v ≡ u16_at o s p → Filling o s start count before (set out i v) (p + 2) (i + 1) (left - 1)
-  filling_next {v} q e = record {
-    same = f.same ∙ ap (λ (vs : List ℕ). take i out ++ filled vs (drop i out)) (units_more o s p left q ∙ ap (λ (u : ℕ). u ∷ units_at o s (p + 2) (left - 1)) (sym e)) ∙ fill_step out (units_at o s (p + 2) (left - 1)) i v (filling_in q);
-    long = length-set out i v ∙ f.long;
-    room = let z = f.room in omega (arith, length-set out i v);
-    there = let z = f.there in omega arith;
-  }
+  pub filling_next : {v : ℕ} → i < count → v ≡ u16_at o s p → Filling o s start count before (set out i v) (p + 2) (i + 1)
+  filling_next {v} q e =
+      let fewer : count - i - 1 ≡ count - (i + 1) = omega arith in
+      record {
+        same = f.same ∙ ap (λ (vs : List ℕ). take i out ++ filled vs (drop i out)) (units_more o s p (count - i) (omega arith) ∙ (λ j. sym e j ∷ units_at o s (p + 2) (fewer j))) ∙ fill_step out (units_at o s (p + 2) (count - (i + 1))) i v (filling_in q);
+        long = length-set out i v ∙ f.long;
+        room = let z = f.room in omega (arith, length-set out i v);
+        there = let z = f.there in omega arith;
+      }
 
-  pub filling_done : left ≤ 0 → out ≡ filled (units_at o s start count) before
+  pub filling_done : count ≤ i → out ≡ filled (units_at o s start count) before
   unfolding units_at filled
   filling_done q =
-      let none : left ≡ 0 = omega arith in
+      let none : count - i ≡ 0 = omega arith in
       sym (f.same ∙ ap (λ (k : ℕ). take i out ++ filled (units_at o s p k) (drop i out)) none ∙ take-append-drop i out)
 
 -- ---- what `units_into` answers, and what it leaves

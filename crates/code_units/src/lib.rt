@@ -14,9 +14,8 @@ fn fill(s: &[u8], order: Endian, start: usize, count: u32, out: &mut [u16])
     ensures { out.new ≡ filled (units_at order s.now start count) out.old }
 {
     let mut p = start;
-    for i in 0..count {
-        let unit = word::u16_at(s, p, order);
-        out[i] = unit;
+    for i in 0..count as usize {
+        out[i] = word::u16_at(s, p, order);
         p += 2;
     }
 }

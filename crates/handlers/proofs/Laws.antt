@@ -9,6 +9,7 @@ use lib.ListN.{length, get_or}
 use lib.Dec.{ltb, eqb}
 use lib.IntN.{ℤ, pos, negsuc}
 use lib.Signed.{lt_z}
+use Rattle.std.specs.Prelude.{Some, None}
 use borrow.Author.Rules.{rules}
 use borrow.Author.Tests.{ltb-true, ltb-false}
 use native.Mathlib.Omega.{arith}
@@ -20,24 +21,16 @@ use Rattle.refusal.specs.declared.Refusal.{Refusal}
 use Rattle.refusal.specs.Outcome.{Outcome, answer, refused, ◌>>=◌, given}
 use Rattle.refusal.specs.Rows.{Found, collect}
 use Rattle.refusal.specs.Choose.{choose}
-use Rattle.refusal.proofs.Laws.{said, tests, calls, bind_answer, bind_refused}
+use Rattle.refusal.proofs.Laws.{handed_on, tests, calls, bind_answer, bind_refused}
 use Rattle.refusal.proofs.Exact.{answers_equal, never}
 use Rattle.refusal.proofs.Rows.{bind_assoc}
 use Rattle.refusal.proofs.Choose.{Choosing, choosing_first, choosing_next, choosing_stop, choosing_done, chosen_by}
 use Rattle.leb128.specs.Leb.{uleb_at, sleb_at}
-use Rattle.leb128.proofs.Laws.{on_leb, on_signed}
 use Rattle.sign.specs.Magnitude.{magnitude}
 use Rattle.handlers.specs.declared.Pair.{Pair}
 use Rattle.handlers.specs.declared.HandlerJudge.{HandlerJudge}
 use Rattle.handlers.specs.declared.Brief.{Brief}
-use Rattle.handlers.specs.declared.PairFoundAnswer.{PairFoundAnswer}
-use Rattle.handlers.specs.declared.PairFoundAnswer.TheVariants as P
-use Rattle.handlers.specs.declared.CatchAllAnswer.{CatchAllAnswer}
-use Rattle.handlers.specs.declared.BriefAnswer.{BriefAnswer}
-use Rattle.handlers.specs.declared.BriefAnswer.TheVariants as B
-use Rattle.handlers.specs.declared.HandlersAnswer.{HandlersAnswer}
-use Rattle.handlers.specs.Handlers.{catches, address_at, pair_at, catch_at, Handler, handler_at, HandlerList, handlers_at, nothing, nobody, caught_in, address_in, brief, briefly, kept_handler, KeptHandlers, kept_handlers_at, kept_pairs, Caught, all_at, rest_at, staged_handler, kept_list, staged_at}
-use Rattle.handlers.specs.Answers.{pair_outcome, all_outcome, brief_outcome, list_outcome}
+use Rattle.handlers.specs.Handlers.{catches, address_at, pair_at, catch_at, Handler, handler_at, HandlerList, handlers_at, nothing, nobody, caught_in, brief, briefly, kept_handler, KeptHandlers, kept_handlers_at, kept_pairs, Caught, all_at, rest_at, staged_handler, kept_list, staged_at}
 
 -- ---- a signed size: `back z` is what the machine reads from z's bits
 abbrev back : ℤ → ℤ
@@ -69,26 +62,6 @@ catches_asked z f e = e ∙ ap catches (to_z-of_z w32 z f)
 pub before_base : (at base : ℕ) → at < base → 0 ≡ at - base
 before_base at base h = omega arith
 
--- ---- the loop of `pairs_at` at its head
-pub record Pairs (s : List ℕ) (j : HandlerJudge) (from count k left p i : ℕ) (kept : Pair) : Type 0 where
-  choosing : Choosing (pair_at s j) count from nothing k left p i kept
-  pub sum : i + left ≡ count
-
-pub pairs_first : (s : List ℕ) (j : HandlerJudge) (from count k : ℕ) → Pairs s j from count k count from 0 nothing
-pairs_first s j from count k = record { choosing = choosing_first (pair_at s j) count from nothing k; sum = omega arith }
-
-module _ {s : List ℕ} {j : HandlerJudge} {from count k left p i : ℕ} {kept : Pair} (h : Pairs s j from count k left p i kept) where
-  pub pairs_next : {x : PairFoundAnswer} {a new : Pair} {n : ℕ} → 0 < left → pair_outcome x ≡ pair_at s j p → x ≡ P.Got a n → new ≡ cond (eqb i k) a kept → Pairs s j from count k (left - 1) n (i + 1) new
-  pairs_next l e t w = record { choosing = choosing_next h.choosing l (sym (ap pair_outcome t) ∙ e) w; sum = let z = h.sum in omega arith }
-
-  pub pairs_stop : {x : PairFoundAnswer} {r : Refusal} → 0 < left → pair_outcome x ≡ pair_at s j p → x ≡ P.Refused r → refused r ≡ kept_pairs s j from count k
-  unfolding kept_pairs
-  pairs_stop l e t = choosing_stop h.choosing l (sym (ap pair_outcome t) ∙ e)
-
-  pub pairs_done : left ≤ 0 → answer (record { item = kept; next = p }) ≡ kept_pairs s j from count k
-  unfolding kept_pairs
-  pairs_done l = choosing_done h.choosing l
-
 -- ---- what is kept of a handler that was read
 module _ (s : List ℕ) (j : HandlerJudge) (k p : ℕ) where
   -- there is a handler of which that is kept
@@ -111,31 +84,30 @@ module _ (s : List ℕ) (j : HandlerJudge) (k p : ℕ) where
       go (refused q) e = cc
 
 -- ---- the loop of `list_found` at its head
-pub record Listing (s : List ℕ) (j : HandlerJudge) (from count h k left p i : ℕ) (kept : Brief) : Type 0 where
+pub record Listing (s : List ℕ) (j : HandlerJudge) (from count h k p i : ℕ) (kept : Brief) : Type 0 where
   handler : Handler
   is : brief k handler ≡ kept
-  choosing : Choosing (handler_at s j) count from nobody h left p i handler
-  pub sum : i + left ≡ count
+  choosing : Choosing (handler_at s j) count from nobody h p i handler
 
-pub listing_first : (s : List ℕ) (j : HandlerJudge) (from count h k : ℕ) → Listing s j from count h k count from 0 (record { offset = 0; pairs = 0; pair = nothing; caught = false; all = 0 })
-listing_first s j from count h k = record { handler = nobody; is = refl; choosing = choosing_first (handler_at s j) count from nobody h; sum = omega arith }
+pub listing_first : (s : List ℕ) (j : HandlerJudge) (from count h k : ℕ) → Listing s j from count h k from 0 (record { offset = 0; pairs = 0; pair = nothing; all = None })
+listing_first s j from count h k = record { handler = nobody; is = refl; choosing = choosing_first (handler_at s j) count from nobody h }
 
-module _ {s : List ℕ} {j : HandlerJudge} {from count h k left p i : ℕ} {kept : Brief} (w : Listing s j from count h k left p i kept) where
-  pub listing_next : {x : BriefAnswer} {b new : Brief} {n : ℕ} → 0 < left → brief_outcome x ≡ kept_handler s j k p → x ≡ B.Got b n → new ≡ cond (eqb i h) b kept
-      → Listing s j from count h k (left - 1) n (i + 1) new
-  listing_next {x} {b} {new} {n} l e t q =
-      let a = behind s j k p (sym (ap brief_outcome t) ∙ e) in
-      record { handler = cond (eqb i h) a.0 w.handler; is = go (eqb i h) a.0 a.1.1 ∙ sym q; choosing = choosing_next w.choosing l a.1.0 refl; sum = let z = w.sum in omega arith }
+module _ {s : List ℕ} {j : HandlerJudge} {from count h k p i : ℕ} {kept : Brief} (w : Listing s j from count h k p i kept) where
+  pub listing_next : {b new : Brief} {n : ℕ} → i < count → answer (record { item = b; next = n }) ≡ kept_handler s j k p → new ≡ cond (eqb i h) b kept
+      → Listing s j from count h k n (i + 1) new
+  listing_next {b} l e q =
+      let a = behind s j k p e in
+      record { handler = cond (eqb i h) a.0 w.handler; is = go (eqb i h) a.0 a.1.1 ∙ sym q; choosing = choosing_next w.choosing l a.1.0 refl }
     where
       go : (t : Bool) (a : Handler) → brief k a ≡ b → brief k (cond t a w.handler) ≡ cond t b kept
       go true a m = m
       go false a m = w.is
 
-  pub listing_stop : {x : BriefAnswer} {r : Refusal} → 0 < left → brief_outcome x ≡ kept_handler s j k p → x ≡ B.Refused r → refused r ≡ kept_list s j from count h k
+  pub listing_stop : {r : Refusal} → i < count → refused r ≡ kept_handler s j k p → refused r ≡ kept_list s j from count h k
   unfolding kept_list
-  listing_stop l e t = sym (bind_refused (briefly k) (sym (choosing_stop w.choosing l (unread s j k p (sym (ap brief_outcome t) ∙ e)))))
+  listing_stop l e = sym (bind_refused (briefly k) (sym (choosing_stop w.choosing l (unread s j k p e))))
 
-  pub listing_done : left ≤ 0 → answer (record { item = kept; next = p }) ≡ kept_list s j from count h k
+  pub listing_done : count ≤ i → answer (record { item = kept; next = p }) ≡ kept_list s j from count h k
   unfolding kept_list
   listing_done l = sym (bind_answer (briefly k) (sym (choosing_done w.choosing l)) ∙ λ i. answer (record { item = w.is i; next = p }))
 
@@ -148,14 +120,14 @@ guarded r false o f e = refl
 -- ---- the stages: of a handler one pair is kept, of the list one handler
 module _ (s : List ℕ) (j : HandlerJudge) where
   catch_stage : {B : Type 0} (b : Bool) (p : ℕ) (f : Found (Option ℕ) ℕ → Outcome B) (g : Caught → Outcome B)
-      → ((c : Found (Option ℕ) ℕ) → f c ≡ g (record { caught = caught_in c.item; all = address_in c.item; next = c.next }))
+      → ((c : Found (Option ℕ) ℕ) → f c ≡ g (record { all = caught_in c.item; next = c.next }))
       → (cond b (address_at s j p >>= λ (a : Found ℕ ℕ). answer (record { item = some a.item; next = a.next })) (answer (record { item = none; next = p })) >>= f)
-      ≡ (cond b (address_at s j p >>= λ (a : Found ℕ ℕ). answer (record { caught = true; all = a.item; next = a.next })) (answer (record { caught = false; all = 0; next = p })) >>= g)
+      ≡ (cond b (address_at s j p >>= λ (a : Found ℕ ℕ). answer (record { all = Some a.item; next = a.next })) (answer (record { all = None; next = p })) >>= g)
   unfolding ◌>>=◌
   catch_stage {B} true p f g h = go (address_at s j p)
     where
       go : (o : Outcome (Found ℕ ℕ)) → ((o >>= λ (a : Found ℕ ℕ). answer (record { item = some a.item; next = a.next })) >>= f)
-          ≡ ((o >>= λ (a : Found ℕ ℕ). answer (record { caught = true; all = a.item; next = a.next })) >>= g)
+          ≡ ((o >>= λ (a : Found ℕ ℕ). answer (record { all = Some a.item; next = a.next })) >>= g)
       go (answer a) = h (record { item = some a.item; next = a.next })
       go (refused r) = refl
   catch_stage false p f g h = h (record { item = none; next = p })
@@ -173,16 +145,15 @@ module _ (s : List ℕ) (j : HandlerJudge) where
           bind_assoc (collect (magnitude z.item) (pair_at s j) z.next) _ (briefly k)
           ∙ chosen_by (magnitude z.item) (pair_at s j) nothing k z.next _ _
           (λ ps size. bind_assoc (catch_at s j z.item ps.next) _ (briefly k) ∙ catch_stage (catches z.item) ps.next _ _
-          (λ c. bind_answer (briefly k) refl ∙ λ i. answer (record { item = record { offset = p - j.base; pairs = size i; pair = get_or ps.item k nothing; caught = caught_in c.item; all = address_in c.item }; next = c.next })))
+          (λ c. bind_answer (briefly k) refl ∙ λ i. answer (record { item = record { offset = p - j.base; pairs = size i; pair = get_or ps.item k nothing; all = caught_in c.item }; next = c.next })))
 
   -- with the count and the offset that were asked for, and a signed argument read from its bits
   pub rest_by : (z : ℤ) (at from k : ℕ) {pairs offset : ℕ} {y : Outcome (Found Brief ℕ)} → SFits w32 z → offset ≡ at - j.base → pairs ≡ magnitude (back z)
       → y ≡ rest_at s j offset pairs (back z) from k → y ≡ rest_at s j (at - j.base) (magnitude z) z from k
   rest_by z at from k f e g h = h ∙ λ i. rest_at s j (e i) ((g ∙ ap magnitude (to_z-of_z w32 z f)) i) (to_z-of_z w32 z f i) from k
 
-  pub all_asked : {B : Type 0} (z : ℤ) (p : ℕ) {x c : CatchAllAnswer} {y : Outcome B} (k : Caught → Outcome B) → SFits w32 z → all_outcome x ≡ all_at s j (back z) p → x ≡ c
-      → y ≡ (all_outcome c >>= k) → y ≡ (all_at s j z p >>= k)
-  all_asked z p k f e m h = said all_outcome k (e ∙ ap (λ (y : ℤ). all_at s j y p) (to_z-of_z w32 z f)) m h
+  pub all_asked : (z : ℤ) (p : ℕ) {o : Outcome Caught} → SFits w32 z → o ≡ all_at s j (back z) p → o ≡ all_at s j z p
+  all_asked z p f e = e ∙ ap (λ (y : ℤ). all_at s j y p) (to_z-of_z w32 z f)
 
   abbrev keeping : ℕ → ℕ → HandlerList → Outcome KeptHandlers
   keeping h k l = answer (record { count = length l.handlers; brief = brief k (get_or l.handlers h nobody); first = l.first; end = l.end })
@@ -207,30 +178,17 @@ module _ (s : List ℕ) (j : HandlerJudge) where
           ≡ given (ltb 0 n.item) (wrong_code j.item) (kept_list s j n.next n.item h k >>= λ (l : Found Brief ℕ). answer (record { count = n.item; brief = l.item; first = n.next; end = l.next }))
       rest n = guarded (wrong_code j.item) (ltb 0 n.item) _ (keeping h k) (inner n)
 
--- ---- calls, by the arm that was taken
-pub on_pair : {B : Type 0} {x c : PairFoundAnswer} {o : Outcome (Found Pair ℕ)} {y : Outcome B} (k : Found Pair ℕ → Outcome B) → pair_outcome x ≡ o → x ≡ c → y ≡ (pair_outcome c >>= k) → y ≡ (o >>= k)
-on_pair = said pair_outcome
-
-pub on_brief : {B : Type 0} {x c : BriefAnswer} {o : Outcome (Found Brief ℕ)} {y : Outcome B} (k : Found Brief ℕ → Outcome B) → brief_outcome x ≡ o → x ≡ c → y ≡ (brief_outcome c >>= k) → y ≡ (o >>= k)
-on_brief = said brief_outcome
-
-pub on_list : {B : Type 0} {x c : HandlersAnswer} {o : Outcome KeptHandlers} {y : Outcome B} (k : KeptHandlers → Outcome B) → list_outcome x ≡ o → x ≡ c → y ≡ (list_outcome c >>= k) → y ≡ (o >>= k)
-on_list = said list_outcome
-
 -- ---- what this crate's functions are searched with
 pub ruleset sign_laws = (catches_no, catches_yes, before_base, rules)
 
-pub ruleset part_laws = (on_leb, on_pair, calls, tests, rules)
+pub ruleset part_laws = (calls, tests, rules)
 
-pub ruleset all_laws = (on_leb, catches_asked, calls, rules)
+pub ruleset all_laws = (catches_asked, calls, rules)
 
-pub ruleset loop_laws = (pairs_first, pairs_next, pairs_stop, pairs_done, listing_first, listing_next, listing_stop, listing_done, rules)
+pub ruleset loop_laws = (choosing_first, choosing_next, choosing_stop, choosing_done, listing_first, listing_next, listing_stop, listing_done, handed_on, rules)
 
-pub ruleset handler_laws = (on_signed, handler_by, rest_by, calls, rules)
+pub ruleset handler_laws = (handler_by, rest_by, calls, rules)
 
-pub ruleset rest_laws = (on_pair, all_asked, calls, rules)
+pub ruleset rest_laws = (all_asked, calls, rules)
 
-pub ruleset stage_laws = (on_leb, on_brief, list_by, calls, tests, rules)
-
--- what a caller's functions are
-pub ruleset laws = (on_brief, on_list)
+pub ruleset stage_laws = (list_by, calls, tests, rules)

@@ -1,11 +1,11 @@
 -- What the answers of the code say.
 use Rattle.std.specs.Prelude.{ℕ, Result}
-use Rattle.refusal.specs.Outcome.{Outcome, answer, refused}
+use Rattle.std.specs.Prelude as S
+use Rattle.refusal.specs.Outcome.{Outcome}
 use Rattle.refusal.specs.Rows.{Found}
 use Rattle.handlers.specs.Handlers.{Caught, KeptHandlers}
 use Rattle.handlers.specs.declared.Pair.{Pair}
 use Rattle.handlers.specs.declared.Brief.{Brief}
-use Rattle.handlers.specs.declared.CatchAllAnswer as A
 use Rattle.refusal.specs.Answers.{found, outcome}
 use Rattle.refusal.specs.declared.Refusal.{Refusal}
 use Rattle.refusal.specs.declared.Read as R
@@ -14,9 +14,8 @@ use Rattle.handlers.specs.declared.HandlerList as H
 abbrev pub pair_outcome : Result (R.Read Pair) Refusal → Outcome (Found Pair ℕ)
 pair_outcome = outcome (found (λ (p : Pair). p))
 
-abbrev pub all_outcome : A.CatchAllAnswer → Outcome Caught
-all_outcome (A.TheVariants.Got c a n) = answer (record { caught = c; all = a; next = n })
-all_outcome (A.TheVariants.Refused r) = refused r
+abbrev pub all_outcome : Result (R.Read (S.Option ℕ)) Refusal → Outcome Caught
+all_outcome = outcome (λ (a : R.Read (S.Option ℕ)). record { all = a.value; next = a.next })
 
 abbrev pub brief_outcome : Result (R.Read Brief) Refusal → Outcome (Found Brief ℕ)
 brief_outcome = outcome (found (λ (b : Brief). b))

@@ -1,5 +1,6 @@
 -- The handler list of a code item as a reading. `s` ends where the data section ends; all faults are at the code item.
-use Rattle.std.specs.Prelude.{ℕ, zero, suc, ◌-◌, Bool, true, false, cond, List, [], length, get_or, ltb, ℤ, pos, negsuc}
+use Rattle.std.specs.Prelude.{ℕ, zero, suc, ◌-◌, Bool, true, false, cond, List, [], length, get_or, ltb, ℤ, pos, negsuc, Some, None}
+use Rattle.std.specs.Prelude as S
 use Rattle.std.proofs.Math.Option.{Option, none, some}
 use Rattle.refusal.specs.Refusals.{wrong_code, wrong_index}
 use Rattle.refusal.specs.Outcome.{Outcome, answer, ◌>>=◌, given}
@@ -73,16 +74,13 @@ nothing = record { kind = 0; address = 0 }
 abbrev pub nobody : Handler
 nobody = record { offset = 0; pairs = []; all = none }
 
-abbrev pub caught_in : Option ℕ → Bool
-caught_in none = false
-caught_in (some a) = true
-
-abbrev pub address_in : Option ℕ → ℕ
-address_in none = 0
-address_in (some a) = a
+-- the catch-all's address as the code keeps it
+abbrev pub caught_in : Option ℕ → S.Option ℕ
+caught_in none = None
+caught_in (some a) = Some a
 
 abbrev pub brief : ℕ → Handler → Brief
-brief k h = record { offset = h.offset; pairs = length h.pairs; pair = get_or h.pairs k nothing; caught = caught_in h.all; all = address_in h.all }
+brief k h = record { offset = h.offset; pairs = length h.pairs; pair = get_or h.pairs k nothing; all = caught_in h.all }
 
 abbrev pub briefly : ℕ → Found Handler ℕ → Outcome (Found Brief ℕ)
 briefly k h = answer (record { item = brief k h.item; next = h.next })
@@ -106,22 +104,21 @@ unfoldable pub kept_pairs : List ℕ → HandlerJudge → ℕ → ℕ → ℕ �
 kept_pairs s j from count k = choose count (pair_at s j) nothing k from
 
 pub record Caught : Type 0 where
-  pub caught : Bool
-  pub all : ℕ
+  pub all : S.Option ℕ
   pub next : ℕ
 
 unfoldable pub all_at : List ℕ → HandlerJudge → ℤ → ℕ → Outcome Caught
 all_at s j size p =
     cond (catches size) (do
       a ← address_at s j p
-      answer (record { caught = true; all = a.item; next = a.next }))
-    (answer (record { caught = false; all = 0; next = p }))
+      answer (record { all = Some a.item; next = a.next }))
+    (answer (record { all = None; next = p }))
 
 unfoldable pub rest_at : List ℕ → HandlerJudge → ℕ → ℕ → ℤ → ℕ → ℕ → Outcome (Found Brief ℕ)
 rest_at s j offset pairs size from k = do
   q ← kept_pairs s j from pairs k
   c ← all_at s j size q.next
-  answer (record { item = record { offset = offset; pairs = pairs; pair = q.item; caught = c.caught; all = c.all }; next = c.next })
+  answer (record { item = record { offset = offset; pairs = pairs; pair = q.item; all = c.all }; next = c.next })
 
 unfoldable pub staged_handler : List ℕ → HandlerJudge → ℕ → ℕ → Outcome (Found Brief ℕ)
 staged_handler s j k p = do

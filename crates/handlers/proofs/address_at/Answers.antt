@@ -6,10 +6,10 @@ pub returns-then-value-j : goal.returns-then-value-j
 unfolding address_at
 returns-then-value-j c = search laws depth 7
 
-pub returns-in-Refused : goal.returns-in-Refused
+pub returns-in_err-value : goal.returns-in_err-value
 unfolding address_at
-returns-in-Refused c = search laws depth 7
+returns-in_err-value c = search laws depth 7
 
-pub returns-else-value-j : goal.returns-else-value-j
+pub returns : goal.returns
 unfolding address_at
-returns-else-value-j c = search laws depth 7
+returns c = search laws depth 7

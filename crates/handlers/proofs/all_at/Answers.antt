@@ -2,14 +2,14 @@ use Rattle.handlers.proofs.Laws.{all_laws as laws}
 use Rattle.handlers.specs.Handlers.{all_at}
 use Rattle.handlers.proofs.all_at.Goals as goal
 
-pub returns-in-Refused : goal.returns-in-Refused
-unfolding all_at
-returns-in-Refused c = search laws depth 8
-
-pub returns-in-Got : goal.returns-in-Got
-unfolding all_at
-returns-in-Got c = search laws depth 8
-
 pub returns : goal.returns
 unfolding all_at
 returns c = search laws depth 8
+
+pub returns-in_err-value : goal.returns-in_err-value
+unfolding all_at
+returns-in_err-value c = search laws depth 8
+
+pub returns-then-is_catching : goal.returns-then-is_catching
+unfolding all_at
+returns-then-is_catching c = search laws depth 8

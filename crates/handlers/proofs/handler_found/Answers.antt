@@ -2,10 +2,10 @@ use Rattle.handlers.proofs.Laws.{handler_laws as laws}
 use Rattle.handlers.specs.Handlers.{staged_handler}
 use Rattle.handlers.proofs.handler_found.Goals as goal
 
-pub returns-in-Refused : goal.returns-in-Refused
+pub returns-in_err-size : goal.returns-in_err-size
 unfolding staged_handler
-returns-in-Refused c = search laws depth 7
+returns-in_err-size c = search laws depth 7
 
-pub returns-in-Got : goal.returns-in-Got
+pub returns : goal.returns
 unfolding staged_handler
-returns-in-Got c = search laws depth 7
+returns c = search laws depth 7

@@ -2,18 +2,18 @@ use Rattle.handlers.proofs.Laws.{stage_laws as laws}
 use Rattle.handlers.specs.Handlers.{staged_at}
 use Rattle.handlers.proofs.handlers_at.Goals as goal
 
-pub returns-in-Refused-list_found : goal.returns-in-Refused-list_found
+pub returns-in_err-count : goal.returns-in_err-count
 unfolding staged_at
-returns-in-Refused-list_found c = search laws depth 9
+returns-in_err-count c = search laws depth 9
 
-pub returns-in-Got-list_found : goal.returns-in-Got-list_found
+pub returns-in_err-brief : goal.returns-in_err-brief
 unfolding staged_at
-returns-in-Got-list_found c = search laws depth 9
+returns-in_err-brief c = search laws depth 9
 
-pub returns-in-Refused : goal.returns-in-Refused
+pub returns-then-count-gt0 : goal.returns-then-count-gt0
 unfolding staged_at
-returns-in-Refused c = search laws depth 9
+returns-then-count-gt0 c = search laws depth 9
 
-pub returns-else-count-gt0 : goal.returns-else-count-gt0
+pub returns : goal.returns
 unfolding staged_at
-returns-else-count-gt0 c = search laws depth 9
+returns c = search laws depth 9

@@ -1,8 +1,5 @@
 use Rattle.handlers.proofs.Laws.{Listing}
 use Rattle.handlers.proofs.list_found.Given as goal
 
-abbrev pub invariant-loop-left : goal.invariant-loop-left
-invariant-loop-left l = Listing l.s l.j l.from l.count l.h l.k l.left l.p l.i l.kept
-
-abbrev pub decreases-loop-left : goal.decreases-loop-left
-decreases-loop-left l = l.left
+abbrev pub invariant-loop-i : goal.invariant-loop-i
+invariant-loop-i l = Listing l.s l.j l.from l.count l.h l.k l.p l.i l.kept

@@ -2,18 +2,18 @@ use Rattle.handlers.proofs.Laws.{part_laws as laws}
 use Rattle.handlers.specs.Handlers.{pair_at}
 use Rattle.handlers.proofs.pair_found.Goals as goal
 
-pub returns-in-Refused-address_at : goal.returns-in-Refused-address_at
+pub returns-in_err-kind : goal.returns-in_err-kind
 unfolding pair_at
-returns-in-Refused-address_at c = search laws depth 8
+returns-in_err-kind c = search laws depth 8
 
-pub returns-in-Got-address_at : goal.returns-in-Got-address_at
+pub returns-in_err-address : goal.returns-in_err-address
 unfolding pair_at
-returns-in-Got-address_at c = search laws depth 8
+returns-in_err-address c = search laws depth 8
 
-pub returns-in-Refused : goal.returns-in-Refused
+pub returns-then-kind-j : goal.returns-then-kind-j
 unfolding pair_at
-returns-in-Refused c = search laws depth 8
+returns-then-kind-j c = search laws depth 8
 
-pub returns-else-kind-j : goal.returns-else-kind-j
+pub returns : goal.returns
 unfolding pair_at
-returns-else-kind-j c = search laws depth 8
+returns c = search laws depth 8

@@ -1,8 +1,6 @@
-use Rattle.handlers.proofs.Laws.{Pairs}
+use Rattle.refusal.proofs.Choose.{Choosing}
+use Rattle.handlers.specs.Handlers.{pair_at, nothing}
 use Rattle.handlers.proofs.pairs_at.Given as goal
 
-abbrev pub invariant-loop-left : goal.invariant-loop-left
-invariant-loop-left l = Pairs l.s l.j l.from l.count l.k l.left l.p l.i l.kept
-
-abbrev pub decreases-loop-left : goal.decreases-loop-left
-decreases-loop-left l = l.left
+abbrev pub invariant-loop-i : goal.invariant-loop-i
+invariant-loop-i l = Choosing (pair_at l.s l.j) l.count l.from nothing l.k l.p l.i l.kept

@@ -2,14 +2,14 @@ use Rattle.handlers.proofs.Laws.{rest_laws as laws}
 use Rattle.handlers.specs.Handlers.{rest_at}
 use Rattle.handlers.proofs.rest_at.Goals as goal
 
-pub returns-in-Refused : goal.returns-in-Refused
+pub returns-in_err-pair : goal.returns-in_err-pair
 unfolding rest_at
-returns-in-Refused c = search laws depth 7
+returns-in_err-pair c = search laws depth 7
 
-pub returns-in-Refused-all_at : goal.returns-in-Refused-all_at
+pub returns-in_err-all : goal.returns-in_err-all
 unfolding rest_at
-returns-in-Refused-all_at c = search laws depth 7
+returns-in_err-all c = search laws depth 7
 
-pub returns-in-Got-all_at : goal.returns-in-Got-all_at
+pub returns : goal.returns
 unfolding rest_at
-returns-in-Got-all_at c = search laws depth 7
+returns c = search laws depth 7
