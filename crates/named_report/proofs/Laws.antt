@@ -2,53 +2,34 @@
 -- Assumes nothing.
 use Prim.Native.Nat.{ℕ, ◌+◌, ◌-◌, ◌≤◌, ◌<◌}
 use mathlib.Core.Path.{◌≡◌, refl, ap, sym, ◌∙◌}
-use mathlib.Core.Bool.{Bool, true, false, cond}
+use mathlib.Core.Bool.{Bool, true, false, cond, not, ◌||◌}
+use Rattle.std.specs.List.{list_any}
 use mathlib.Core.List.{List, [], ◌∷◌, ◌++◌, append_assoc, append-nil}
-use lib.ListN.{length, take, drop, get_or, length-append, length-take, length-drop, take-append-drop, drop_of_length-le}
-use lib.Seq.{take_all, drop_at, drop-cons, drop-drop}
-use lib.Dec.{leb, eqb}
+use lib.ListN.{length, take, drop, length-append, length-take, length-drop, take-append-drop, drop_of_length-le}
+use lib.Seq.{take_all, drop_at, drop-drop}
+use lib.Dec.{eqb}
 use borrow.Author.Rules.{rules}
-use borrow.Author.Tests.{le-leb, leb-true, leb-false, eq-eqb, ne_eqb}
-use native.Mathlib.Numerals.{add-one}
 use native.Mathlib.Omega.{arith}
 use mir.Syntax.{w64}
 use mir.Val.{Fits}
 use Rattle.refusal.specs.Refusals.{no_room}
 use Rattle.refusal.specs.declared.Refusal.{Refusal}
-use Rattle.refusal.specs.Outcome.{Outcome, answer, refused, given}
+use Rattle.refusal.specs.Outcome.{Outcome, answer, refused}
 use Rattle.header.specs.declared.Header.{Header}
-use Rattle.report.specs.declared.ReportAnswer.{ReportAnswer}
-use Rattle.report.specs.declared.ReportAnswer as R
-use Rattle.report.specs.Answers.{report_outcome}
 use Rattle.report.specs.Lines.{told, report_of}
 use Rattle.report.specs.Stored.{placed, Stored, written, content}
 use Rattle.report.proofs.Laws.{stored_then, stored_long, short_answer, short_content, got_length, refused_length, written_fits, content_fits}
 use Rattle.named_report.specs.Output.{one_line, heading, output_of}
 
--- ---- the loop of `is_one_line`: the bytes before i are no line feeds
-pub record Passed (name : List ℕ) (i : ℕ) : Type 0 where
-  pub few : i ≤ length name
-  so_far : one_line name ≡ one_line (drop i name)
-
-pub pass_first : (name : List ℕ) → Passed name 0
-pass_first name = record { few = omega arith; so_far = refl }
-
-module _ {name : List ℕ} {i : ℕ} (h : Passed name i) where
-  next_byte : i < length name → one_line name ≡ cond (eqb (get_or name i 0) 10) false (one_line (drop (i + 1) name))
-  unfolding one_line
-  next_byte l = h.so_far ∙ rw (drop-cons name i 0 l, add-one i)
-
-  pub pass_feed : i < length name → get_or name i 0 ≡ 10 → false ≡ one_line name
-  pass_feed l e = sym (next_byte l ∙ rw (eq-eqb (get_or name i 0) 10 e))
-
-  pub pass_next : i < length name → (get_or name i 0 ≡ 10 → ⊥) → Passed name (i + 1)
-  pass_next l n = record { few = omega arith; so_far = next_byte l ∙ rw (ne_eqb (get_or name i 0) 10 n) }
-
-  pub pass_done : length name ≤ i → true ≡ one_line name
-  unfolding one_line
-  pass_done l = sym (h.so_far ∙ rw (drop_of_length-le name l))
-
-pub ruleset pass_laws = (pass_first, pass_feed, pass_next, pass_done, rules)
+-- ---- a name is one line where no byte of it is a line feed
+pub no_feed : (name : List ℕ) → not (list_any (λ (b : ℕ). eqb b 10) name) ≡ one_line name
+unfolding one_line
+no_feed [] = refl
+no_feed (b ∷ bs) = by_feed (eqb b 10) (no_feed bs)
+  where
+    by_feed : (t : Bool) → not (list_any (λ (c : ℕ). eqb c 10) bs) ≡ one_line bs → not (t || list_any (λ (c : ℕ). eqb c 10) bs) ≡ cond t false (one_line bs)
+    by_feed true h = refl
+    by_feed false h = h
 
 -- ---- a text stored in the rest of an output, from a place on
 -- the rest is lent whole, and nothing comes after it
@@ -76,11 +57,6 @@ module _ (text out last : List ℕ) (at : ℕ) (e : last ≡ content text (take 
   rest_kept h l =
       let short = short_content text (drop at out) (let z = length-drop at out in omega arith) in
       rest_back out at last ∙ ap (λ (l : List ℕ). take at out ++ l) (last_is ∙ sym short) ∙ take-append-drop at out
-
-  pub rest_stored : at + length text ≤ length out → Stored text at out (take at out ++ (last ++ drop (length out - at) (drop at out))) (at + length text)
-  rest_stored h = record { room = h; content = rest_placed h; ends = refl }
-
-pub ruleset put_laws = (rest_stored, rules)
 
 -- ---- the line of a name
 pub heading_long : (name : List ℕ) → 0 < length name → length name + 6 ≡ length (heading name)
@@ -138,18 +114,17 @@ module _ (name out : List ℕ) (o : Outcome Header) (at : ℕ) (long : at ≡ le
   no_room_content l = short_content (output_of name o) out (let z = output_long in omega arith)
 
   -- the part that the report was to go into
-  module _ (x : ReportAnswer) (h : at ≤ length out) (e : report_outcome x ≡ written (report_of o) (length (take (length out - at) (drop at out)))) where
+  module _ (h : at ≤ length out) where
     part_long : length (take (length out - at) (drop at out)) ≡ length out - at
     part_long = ap length (rest_whole out at) ∙ length-drop at out
 
-    module _ (r : Refusal) (c : x ≡ R.TheVariants.Refused r) where
+    module _ {r : Refusal} (e : refused r ≡ written (report_of o) (length (take (length out - at) (drop at out)))) where
       short : length (take (length out - at) (drop at out)) < length (report_of o)
-      short = refused_length (report_of o) _ r (sym (ap report_outcome c) ∙ e)
+      short = refused_length (report_of o) _ r e
 
       pub short_output_answer : refused r ≡ written (output_of name o) (length out)
       short_output_answer =
-          sym (ap report_outcome c)
-          ∙ e
+          e
           ∙ sym (short_answer (report_of o) (take (length out - at) (drop at out)) short refl)
           ∙ short_answer (output_of name o) out (let z = output_long in let y = part_long in let w = short in omega arith) refl
 
@@ -158,9 +133,9 @@ module _ (name out : List ℕ) (o : Outcome Header) (at : ℕ) (long : at ≡ le
           rest_kept (report_of o) out last at w h (let y = part_long in let v = short in omega arith)
           ∙ short_content (output_of name o) out (let z = output_long in let y = part_long in let v = short in omega arith)
 
-    module _ (k : ℕ) (c : x ≡ R.TheVariants.Got k) where
+    module _ {k : ℕ} (e : answer k ≡ written (report_of o) (length (take (length out - at) (drop at out)))) where
       got : (k ≡ length (report_of o)) × (length (report_of o) ≤ length (take (length out - at) (drop at out)))
-      got = got_length (report_of o) _ k (sym (ap report_outcome c) ∙ e)
+      got = got_length (report_of o) _ k e
 
       sum_within : at + k ≤ length out
       sum_within = let z = got.0 in let y = got.1 in let w = part_long in omega arith

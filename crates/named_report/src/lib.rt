@@ -8,19 +8,13 @@ ghost use Rattle.report.specs.Answers.{report_outcome};
 ghost use Rattle.named_report.specs.Output.{one_line, heading, output_of, status};
 
 use refusal::Refusal;
+use verdict::Verdict;
 
 // Is a name one line? One with a line feed would be two, and the second could say what a report says.
 pub fn is_one_line(name: &[u8]) -> bool
     ensures { result ≡ one_line name.now }
 {
-    let mut i: usize = 0;
-    while i < name.len() {
-        if name[i] == b'\n' {
-            return false;
-        }
-        i += 1;
-    }
-    true
+    !name.contains(&b'\n')
 }
 
 // How many bytes the line of a name takes.
@@ -38,8 +32,9 @@ fn put(text: &[u8], out: &mut [u8], at: usize) -> usize
     requires { at + length text.now ≤ length out.old }
     ensures { Stored text.now at out.old out.new result }
 {
-    report::text_into(text, &mut out[at..]);
-    at + text.len()
+    let end = at + text.len();
+    out[at..end].copy_from_slice(text);
+    end
 }
 
 // The line of a name, where there is room for it.
@@ -56,11 +51,7 @@ fn put_heading(name: &[u8], out: &mut [u8]) -> usize
 }
 
 // All that goes out for an input: how many bytes, or 19, writing nothing, where the output is shorter.
-pub fn output_into(
-    name: &[u8],
-    verdict: Result<Header, Refusal>,
-    out: &mut [u8],
-) -> Result<usize, Refusal>
+pub fn output_into(name: &[u8], verdict: Verdict, out: &mut [u8]) -> Result<usize, Refusal>
     ensures answer { report_outcome result ≡ written (output_of name.now (verdict_outcome verdict)) (length out.old) }
     ensures wrote { out.new ≡ content (output_of name.now (verdict_outcome verdict)) out.old }
 {
@@ -68,18 +59,14 @@ pub fn output_into(
     if out.len() < at {
         return Err(refusal::no_room());
     }
-    match report::verdict_into(verdict, &mut out[at..]) {
-        Ok(k) => {
-            let end = at + k;
-            put_heading(name, out);
-            Ok(end)
-        }
-        Err(r) => Err(r),
-    }
+    let k = report::verdict_into(verdict, &mut out[at..])?;
+    let end = at + k;
+    put_heading(name, out);
+    Ok(end)
 }
 
 // What an input comes to that was read: 0 where it is accepted, 1 where it is refused.
-pub fn status_of(verdict: Result<Header, Refusal>) -> u8
+pub fn status_of(verdict: Verdict) -> u8
     ensures { result ≡ status (verdict_outcome verdict) }
 {
     match verdict {

@@ -1,14 +1,14 @@
 -- What the functions' proofs cite of texts: which bytes are special, the writing of one byte, and the going over a text.
 -- Assumes nothing.
-use Prim.Native.Nat.{ℕ, zero, suc, ◌+◌, ◌-◌, ◌/◌, ◌%◌, ◌≤◌, ◌<◌}
+use Prim.Native.Nat.{max, ℕ, suc, ◌+◌, ◌-◌, ◌/◌, ◌%◌, ◌≤◌, ◌<◌}
 use mathlib.Core.Path.{◌≡◌, refl, ap, sym, ◌∙◌}
-use mathlib.Core.Bool.{Bool, true, false, cond}
+use mathlib.Core.Bool.{Bool, true, false}
 use mathlib.Core.List.{List, [], ◌∷◌, ◌++◌, append_assoc, append-nil}
 use lib.ListN.{length, take, drop, get_or, length-append, drop_of_length-le}
 use lib.Seq.{take_at, drop-cons}
-use lib.Dec.{leb, ltb, eqb}
+use lib.Dec.{leb, eqb}
 use borrow.Author.Rules.{rules}
-use borrow.Author.Tests.{lt-ltb, le-ltb, le-leb, lt-leb, eq-eqb, ne_eqb}
+use borrow.Author.Tests.{lt-ltb, le-ltb, le-leb, lt-leb, eq-eqb, ne_eqb, leb-true, leb-false}
 use native.Mathlib.Numerals.{add-one}
 use native.Mathlib.Omega.{arith}
 use mir.Syntax.{w8}
@@ -151,6 +151,7 @@ pub record Escaping (key : Bool) (text : List ℕ) (from : ℕ) (out₀ out : Li
   finished : List ℕ
   split : drop from text ≡ finished ++ drop i text
   pub count : i ≡ from + length finished
+  pub past : length text ≤ from → i ≡ from
   pub so_far : Stored (escaped key finished) 0 out₀ out p
   rest : fitting key (drop from text) (length out₀) ≡ length finished + fitting key (drop i text) (length out₀ - p)
   pub long : length out ≡ length out₀
@@ -161,6 +162,7 @@ escape_first key text from out = record {
   finished = [];
   split = refl;
   count = omega arith;
+  past = λ l. refl;
   so_far = record { room = omega arith; content = refl; ends = refl };
   rest = let none : length out ≡ length out - 0 = omega arith in let z = ap (λ (k : ℕ). fitting key (drop from text) k) none in omega arith;
   long = refl;
@@ -193,9 +195,17 @@ module _ {key : Bool} {text : List ℕ} {from : ℕ} {out₀ out : List ℕ} {i 
       let short : length out₀ - p < length (form key (get_or text i 0)) = let z = h.long in omega arith in
       stops (rw (byte_next l, lt-leb (length (form key (get_or text i 0))) (length out₀ - p) short))
 
-  pub escape_done : length text ≤ i → Pieced key text from out₀ out i p
+  -- where the walk ended: at the text's end, or where it began if that is past it
+  ended : length text ≤ i → (from ≤ length text → i ≤ length text) → max from (length text) ≡ i
+  ended l f = by_end (leb from (length text)) refl
+    where
+      by_end : (t : Bool) → leb from (length text) ≡ t → max from (length text) ≡ i
+      by_end true e = let z = f (leb-true from (length text) e) in let y = leb-true from (length text) e in omega arith
+      by_end false e = let y = leb-false from (length text) e in let z = h.past (omega arith) in omega arith
+
+  pub escape_done : {m : ℕ} → m ≡ max from (length text) → length text ≤ i → (from ≤ length text → i ≤ length text) → Pieced key text from out₀ out m p
   unfolding fitting
-  escape_done l = stops (rw (drop_of_length-le text l))
+  escape_done e l f = rw (e ∙ ended l f) (stops (rw (drop_of_length-le text l)))
 
   pub escape_next : {o : List ℕ} {q : ℕ} → i < length text → Stored (form key (get_or text i 0)) p out o q → Escaping key text from out₀ o (i + 1) q
   unfolding fitting
@@ -209,6 +219,7 @@ module _ {key : Bool} {text : List ℕ} {from : ℕ} {out₀ out : List ℕ} {i 
         finished = h.finished ++ (b ∷ []);
         split = h.split ∙ ap (λ (t : List ℕ). h.finished ++ t) (byte_next l) ∙ sym (append_assoc h.finished (b ∷ []) (drop (i + 1) text));
         count = let z = h.count in omega arith;
+        past = λ f. let z = h.count in absurd (omega arith);
         so_far = rw (escaped_append key h.finished (b ∷ []), escaped_one key b) (stored_then h.so_far s);
         rest = let z = h.rest in omega arith;
         long = stored_long s ∙ h.long;

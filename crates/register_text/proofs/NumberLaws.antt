@@ -2,13 +2,12 @@
 -- Assumes nothing.
 use Prim.Native.Nat.{ℕ, zero, suc, ◌+◌, ◌-◌, ◌/◌, ◌%◌, ◌≤◌, ◌<◌}
 use mathlib.Core.Path.{◌≡◌, refl, ap, sym, ◌∙◌}
-use mathlib.Core.Bool.{Bool, true, false, cond}
+use mathlib.Core.Bool.{Bool, true, false}
 use mathlib.Core.List.{List, [], ◌∷◌, ◌++◌, append_assoc, append-nil}
-use lib.ListN.{length, take, drop, set, get_or, length-append, length-drop, length-set, drop_of_length-le}
+use lib.ListN.{length, take, drop, set, length-append, length-drop, length-set, drop_of_length-le}
 use lib.Seq.{take_all, drop_at, set_split, length-take-le}
 use borrow.Author.Rules.{rules}
 use borrow.Author.Tests.{le-ltb}
-use native.Mathlib.Numerals.{add-one}
 use native.Mathlib.Omega.{arith}
 use mir.Syntax.{w64}
 use mir.Val.{Fits, SFits, to_z, of_z}
@@ -19,9 +18,6 @@ use Rattle.sign.specs.Magnitude.{magnitude}
 use Rattle.refusal.specs.Refusals.{no_room}
 use Rattle.refusal.specs.declared.Refusal.{Refusal}
 use Rattle.refusal.specs.Outcome.{Outcome, answer, refused}
-use Rattle.report.specs.declared.ReportAnswer.{ReportAnswer}
-use Rattle.report.specs.declared.ReportAnswer as R
-use Rattle.report.specs.Answers.{report_outcome}
 use Rattle.report.specs.Decimal.{decimal}
 use Rattle.report.specs.Stored.{written, content}
 use Rattle.report.proofs.Laws.{short_answer, short_content, got_length, refused_length, written_fits, content_fits}
@@ -98,15 +94,14 @@ module _ (n : ℕ) (out : List ℕ) where
   rest_long : length (take (length out - 1) (drop 1 out)) ≡ length out - 1
   rest_long = ap length rest_whole ∙ length-drop 1 out
 
-  module _ (x : ReportAnswer) (some : 1 ≤ length out) (e : report_outcome x ≡ written (decimal n) (length (take (length out - 1) (drop 1 out)))) where
-    module _ (r : Refusal) (c : x ≡ R.TheVariants.Refused r) where
+  module _ (some : 1 ≤ length out) where
+    module _ {r : Refusal} (e : refused r ≡ written (decimal n) (length (take (length out - 1) (drop 1 out)))) where
       short : length (take (length out - 1) (drop 1 out)) < length (decimal n)
-      short = refused_length (decimal n) _ r (sym (ap report_outcome c) ∙ e)
+      short = refused_length (decimal n) _ r e
 
       pub short_minus_answer : refused r ≡ written (signed true n) (length out)
       short_minus_answer =
-          sym (ap report_outcome c)
-          ∙ e
+          e
           ∙ sym (short_answer (decimal n) (take (length out - 1) (drop 1 out)) short refl)
           ∙ short_answer (signed true n) out (let z = long in let y = rest_long in let w = short in omega arith) refl
 
@@ -119,9 +114,9 @@ module _ (n : ℕ) (out : List ℕ) where
           front_again [] = refl
           front_again (a ∷ l) = refl
 
-    module _ (k : ℕ) (c : x ≡ R.TheVariants.Got k) where
+    module _ {k : ℕ} (e : answer k ≡ written (decimal n) (length (take (length out - 1) (drop 1 out)))) where
       got : (k ≡ length (decimal n)) × (length (decimal n) ≤ length (take (length out - 1) (drop 1 out)))
-      got = got_length (decimal n) _ k (sym (ap report_outcome c) ∙ e)
+      got = got_length (decimal n) _ k e
 
       pub minus_fits : Fits w64 (length out) → Fits w64 (k + 1)
       minus_fits f = record { fits = let z = got.0 in let y = got.1 in let w = rest_long in let v = f.fits in omega arith }

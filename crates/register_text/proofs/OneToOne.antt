@@ -1,7 +1,7 @@
 -- docs/REGISTER.md, "Texts": the writing is one to one. Two texts that are written the same have the same bytes, in either form.
 -- And numbers: two that are written the same are the same.
 -- Assumes nothing.
-use Prim.Native.Nat.{ℕ, zero, suc, ◌+◌, ◌*◌, ◌/◌, ◌%◌, ◌^◌, ◌≤◌, ◌<◌}
+use Prim.Native.Nat.{ℕ, zero, suc, ◌*◌, ◌/◌, ◌%◌, ◌^◌, ◌≤◌, ◌<◌}
 use mathlib.Core.Path.{◌≡◌, refl, ap, sym, ◌∙◌}
 use mathlib.Core.Bool.{Bool, true, false, cond}
 use mathlib.Core.List.{List, [], ◌∷◌, ◌++◌}
@@ -12,9 +12,9 @@ use lib.Dec.{ltb, eqb}
 use borrow.Author.Tests.{ltb-true, ltb-false, eq-eqb, eqb-true}
 use native.Mathlib.Nat.{pow-succ', mul_comm, mul_assoc}
 use native.Mathlib.Omega.{arith}
-use Rattle.report.specs.Decimal.{decimal, valued, Digits, none, digit, Decimal}
+use Rattle.report.specs.Decimal.{decimal, valued, Digits, none, digit}
 use Rattle.report.proofs.Decimals.{decimal_reads_back}
-use Rattle.register_text.specs.Escapes.{in_key, special, hex, form, escaped}
+use Rattle.register_text.specs.Escapes.{special, hex, form, escaped}
 use Rattle.register_text.specs.Numbers.{signed, integer, hexadecimal}
 use Rattle.register_text.specs.Wholes.{Halves, exactly, broken, halved_by}
 use Rattle.register_text.proofs.NumberLaws.{hexadecimal_long}

@@ -1,55 +1,52 @@
 -- What the functions' proofs cite of floats: the halving in turn, and the ways of a float's bits.
 -- Assumes nothing.
-use Prim.Native.Nat.{ℕ, zero, suc, ◌+◌, ◌-◌, ◌*◌, ◌/◌, ◌%◌, ◌^◌, ◌≤◌, ◌<◌}
+use Prim.Native.Nat.{ℕ, zero, suc, ◌+◌, ◌-◌, ◌/◌, ◌%◌, ◌≤◌, ◌<◌}
 use mathlib.Core.Path.{◌≡◌, refl, ap, sym, ◌∙◌}
-use mathlib.Core.Bool.{Bool, true, false, cond}
-use lib.Dec.{leb, ltb, eqb}
+use mathlib.Core.Bool.{Bool, false, cond}
+use lib.Dec.{leb, eqb}
 use borrow.Author.Rules.{rules}
 use borrow.Author.Tests.{lt-ltb, le-ltb, le-leb, lt-leb, eq-eqb, ne_eqb}
 use native.Mathlib.Omega.{arith}
+use Rattle.refusal.proofs.Laws.{one_less, some_left, all_left}
 use Rattle.register_text.specs.Wholes.{Halves, exactly, broken, Worth, whole, not_whole, halved_by, with_sign, scaled_of, float_worth, double_worth}
-use Rattle.register_text.specs.Answers.{half_worth, whole_worth}
-use Rattle.register_text.specs.declared.Half.{Half}
-use Rattle.register_text.specs.declared.Half as H
-use Rattle.register_text.specs.declared.Whole.{Whole}
 
--- ---- halving: `rest` is still to be halved `left` times
-pub record Halving (n times rest left : ℕ) : Type 0 where
-  so_far : halved_by times n ≡ halved_by left rest
+-- ---- halving: before turn k, `rest` is still to be halved as often as turns are left
+pub record Halving (n times rest k : ℕ) : Type 0 where
+  so_far : halved_by times n ≡ halved_by (times - k) rest
 
-pub halve_first : (n times : ℕ) → Halving n times n times
-halve_first n times = record { so_far = refl }
+pub halve_first : (n times : ℕ) → Halving n times n 0
+halve_first n times = record { so_far = ap (λ (k : ℕ). halved_by k n) all_left }
 
-module _ {n times rest left : ℕ} (h : Halving n times rest left) where
-  step : 0 < left → halved_by left rest ≡ cond (eqb (rest % 2) 0) (halved_by (left - 1) (rest / 2)) broken
+module _ {n times rest k : ℕ} (h : Halving n times rest k) where
+  step : k < times → halved_by (times - k) rest ≡ cond (eqb (rest % 2) 0) (halved_by (times - (k + 1)) (rest / 2)) broken
   unfolding halved_by
-  step l = by left refl l
+  step l = by (times - k) refl (some_left l) ∙ ap (λ (m : ℕ). cond (eqb (rest % 2) 0) (halved_by m (rest / 2)) broken) (one_less l)
     where
-      by : (m : ℕ) → left ≡ m → 0 < m → halved_by left rest ≡ cond (eqb (rest % 2) 0) (halved_by (left - 1) (rest / 2)) broken
+      by : (m : ℕ) → times - k ≡ m → 0 < m → halved_by m rest ≡ cond (eqb (rest % 2) 0) (halved_by (m - 1) (rest / 2)) broken
       by zero e l = absurd (omega arith)
-      by (suc k) e l = let back : left - 1 ≡ k = omega arith in rw (back, e)
+      by (suc m) e l = let back : suc m - 1 ≡ m = omega arith in rw back
 
-  pub halve_broken : 0 < left → (rest % 2 ≡ 0 → ⊥) → broken ≡ halved_by times n
+  pub halve_broken : k < times → (rest % 2 ≡ 0 → ⊥) → broken ≡ halved_by times n
   halve_broken l e = sym (h.so_far ∙ step l ∙ rw (ne_eqb (rest % 2) 0 e))
 
-  pub halve_next : 0 < left → rest % 2 ≡ 0 → Halving n times (rest / 2) (left - 1)
+  pub halve_next : k < times → rest % 2 ≡ 0 → Halving n times (rest / 2) (k + 1)
   halve_next l e = record { so_far = h.so_far ∙ step l ∙ rw (eq-eqb (rest % 2) 0 e) }
 
-  pub halve_done : left ≤ 0 → exactly rest ≡ halved_by times n
+  pub halve_done : times ≤ k → exactly rest ≡ halved_by times n
   unfolding halved_by
-  halve_done l = let none : left ≡ 0 = omega arith in sym (h.so_far ∙ ap (λ (k : ℕ). halved_by k rest) none)
+  halve_done l = let none : times - k ≡ 0 = omega arith in sym (h.so_far ∙ ap (λ (m : ℕ). halved_by m rest) none)
 
 pub ruleset halve_laws = (halve_first, halve_broken, halve_next, halve_done, rules)
 
 -- ---- with a sign
-module _ (negative : Bool) (n times : ℕ) (x : Half) (e : half_worth x ≡ halved_by times n) where
-  pub scaled_broken : x ≡ H.TheVariants.Broken → not_whole ≡ scaled_of negative n times
+module _ (negative : Bool) (n times : ℕ) where
+  pub scaled_broken : broken ≡ halved_by times n → not_whole ≡ scaled_of negative n times
   unfolding scaled_of
-  scaled_broken c = ap (λ (h : Halves). with_sign negative h) (sym (ap half_worth c) ∙ e)
+  scaled_broken e = ap (λ (h : Halves). with_sign negative h) e
 
-  pub scaled_whole : (m : ℕ) → x ≡ H.TheVariants.Whole m → whole negative m ≡ scaled_of negative n times
+  pub scaled_whole : {m : ℕ} → exactly m ≡ halved_by times n → whole negative m ≡ scaled_of negative n times
   unfolding scaled_of
-  scaled_whole m c = ap (λ (h : Halves). with_sign negative h) (sym (ap half_worth c) ∙ e)
+  scaled_whole e = ap (λ (h : Halves). with_sign negative h) e
 
 pub ruleset scaled_laws = (scaled_broken, scaled_whole, rules)
 

@@ -1,10 +1,12 @@
 -- What the answers of the code say.
+use Rattle.std.specs.Prelude.{ℕ, Option, Some, None}
 use Rattle.register_text.specs.Wholes.{Halves, exactly, broken, Worth, whole, not_whole}
+use Rattle.register_text.specs.declared.WholeNumber.{WholeNumber}
 
-abbrev pub half_worth : H.Half → Halves
-half_worth (H.TheVariants.Whole n) = exactly n
-half_worth H.TheVariants.Broken = broken
+abbrev pub half_worth : Option ℕ → Halves
+half_worth (Some n) = exactly n
+half_worth None = broken
 
-abbrev pub whole_worth : W.Whole → Worth
-whole_worth (W.TheVariants.Number negative magnitude) = whole negative magnitude
-whole_worth W.TheVariants.Absent = not_whole
+abbrev pub whole_worth : Option WholeNumber → Worth
+whole_worth (Some w) = whole w.negative w.magnitude
+whole_worth None = not_whole

@@ -1,5 +1,5 @@
 -- docs/REGISTER.md, "Texts": a text is written as its own bytes, but for those that are written by their number.
-use Rattle.std.specs.Prelude.{ℕ, zero, suc, ◌+◌, ◌-◌, ◌/◌, ◌%◌, ◌≡◌, Bool, true, false, cond, List, [], ◌∷◌, ◌++◌, length, take, drop, ltb, leb, eqb}
+use Rattle.std.specs.Prelude.{ℕ, suc, ◌+◌, ◌-◌, ◌/◌, ◌%◌, ◌≡◌, Bool, true, false, cond, List, [], ◌∷◌, ◌++◌, length, take, drop, ltb, leb, eqb}
 use Rattle.report.specs.Stored.{Stored}
 
 -- "In a NAME of a key . [ ] and @"

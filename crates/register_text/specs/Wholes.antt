@@ -1,7 +1,7 @@
 -- docs/REGISTER.md, "Kinds": "where it is a whole number of at most 2^24 (float) or 2^53 (double) either way, that number".
 -- A float has a sign bit, 8 bits of exponent and 23 of fraction; a double has 1, 11 and 52. Its number is (2^23 + fraction) * 2^(exponent - 150), that of a double
 -- (2^52 + fraction) * 2^(exponent - 1075), but for exponent 0, whose numbers are 0 and less than 1, and the highest, which has infinities and what is no number.
-use Rattle.std.specs.Prelude.{ℕ, zero, suc, ◌+◌, ◌-◌, ◌*◌, ◌/◌, ◌%◌, Bool, true, false, cond, ltb, leb, eqb}
+use Rattle.std.specs.Prelude.{ℕ, zero, suc, ◌+◌, ◌-◌, ◌/◌, ◌%◌, Bool, false, cond, ltb, leb, eqb}
 
 -- a number that was halved
 pub data Halves : Type 0 where

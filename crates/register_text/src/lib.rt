@@ -116,18 +116,19 @@ fn put_form(b: u8, key: bool, out: &mut [u8], at: usize) -> usize
 pub fn escape_into(text: &[u8], from: usize, key: bool, out: &mut [u8]) -> Piece
     ensures { Pieced key text.now from out.old out.new result.next result.used }
 {
-    let mut i = from;
     let mut p: usize = 0;
-    while i < text.len() {
+    for i in from..text.len() {
         let b = text[i];
         let size = form_size(b, key);
         if out.len() - p < size {
             return Piece { next: i, used: p };
         }
         p = put_form(b, key, out, p);
-        i += 1;
     }
-    Piece { next: i, used: p }
+    Piece {
+        next: from.max(text.len()),
+        used: p,
+    }
 }
 
 // A minus and a number's digits: how many bytes, or 19, writing nothing, where the output is shorter.
@@ -175,10 +176,8 @@ pub fn hex_into(n: u64, digits: usize, out: &mut [u8]) -> Result<usize, Refusal>
     if out.len() < digits {
         return Err(refusal::no_room());
     }
-    let mut i = digits;
     let mut rest = n;
-    while 0 < i {
-        i -= 1;
+    for i in (0..digits).rev() {
         out[i] = hex_digit((rest % 16) as u8);
         rest = rest / 16;
     }
@@ -203,13 +202,11 @@ fn halved(n: u64, times: u32) -> Option<u64>
 fn scaled(negative: bool, significand: u64, times: u32) -> Option<WholeNumber>
     ensures { whole_worth result ≡ scaled_of negative significand times }
 {
-    match halved(significand, times) {
-        None => None,
-        Some(magnitude) => Some(WholeNumber {
-            negative,
-            magnitude,
-        }),
-    }
+    let magnitude = halved(significand, times)?;
+    Some(WholeNumber {
+        negative,
+        magnitude,
+    })
 }
 
 // The whole number that a float of these bits is, of at most 2^24 either way. From exponent 127 on it is 1 or more; from 150 on it is whole, and 151 is

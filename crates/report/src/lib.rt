@@ -11,6 +11,7 @@ ghost use Rattle.report.specs.Answers.{report_outcome};
 
 use header::Header;
 use refusal::Refusal;
+use verdict::Verdict;
 use word::Endian;
 
 // One byte, where there is room for it; the place after it.
@@ -222,7 +223,7 @@ fn refused_into(refusal: Refusal, out: &mut [u8]) -> Result<usize, Refusal>
 }
 
 // The report of a verdict: of the header of an accepted file, or of the refusal.
-pub fn verdict_into(verdict: Result<Header, Refusal>, out: &mut [u8]) -> Result<usize, Refusal>
+pub fn verdict_into(verdict: Verdict, out: &mut [u8]) -> Result<usize, Refusal>
     ensures answer { report_outcome result ≡ written (report_of (verdict_outcome verdict)) (length out.old) }
     ensures wrote { out.new ≡ content (report_of (verdict_outcome verdict)) out.old }
 {

@@ -1,14 +1,7 @@
-use Rattle.named_report.proofs.Laws.{pass_laws as laws}
+use mathlib.Core.Path.{ap, ◌∙◌}
+use mathlib.Core.Bool.{not}
+use Rattle.named_report.proofs.Laws.{no_feed}
 use Rattle.named_report.proofs.is_one_line.Goals as goal
 
-pub loop-i-init : goal.loop-i-init
-loop-i-init c = search laws
-
-pub returns-then-name-i-eq10 : goal.returns-then-name-i-eq10
-returns-then-name-i-eq10 c = search laws
-
-pub loop-i-preserved : goal.loop-i-preserved
-loop-i-preserved c = search laws
-
 pub returns : goal.returns
-returns c = search laws
+returns c = ap not c.contains.ensures.value ∙ no_feed c.args.name.now

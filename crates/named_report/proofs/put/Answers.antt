@@ -1,4 +1,4 @@
-use Rattle.named_report.proofs.Laws.{put_laws as laws}
+use Rattle.report.proofs.Laws.{put_laws as laws}
 use Rattle.named_report.proofs.put.Goals as goal
 
 pub returns : goal.returns
