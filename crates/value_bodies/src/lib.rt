@@ -40,8 +40,7 @@ fn values_past(s: &[u8], w: Walk, from: usize, k: u32) -> Result<usize, Refusal>
 {
     let mut p = from;
     for _ in 0..k {
-        let next = encoded_value::value(s, w, p, DEEPEST_VALUE)?;
-        p = next;
+        p = encoded_value::value(s, w, p, DEEPEST_VALUE)?;
     }
     Ok(p)
 }
@@ -87,8 +86,7 @@ fn elements_past(s: &[u8], w: Walk, from: usize, k: u32) -> Result<usize, Refusa
     let mut p = from;
     for _ in 0..k {
         let Read { next: at, .. } = value_heads::index_at(s, w.item, w.strings, p)?;
-        let next = encoded_value::value(s, w, at, DEEPEST_VALUE)?;
-        p = next;
+        p = encoded_value::value(s, w, at, DEEPEST_VALUE)?;
     }
     Ok(p)
 }

@@ -1,14 +1,14 @@
 use Rattle.value_bodies.proofs.Laws.{annotation_laws as laws}
 use Rattle.value_bodies.proofs.annotation_head.Goals as goal
 
-pub returns-in-Refused : goal.returns-in-Refused
-returns-in-Refused c = search laws
+pub returns-in_err-top_annotation : goal.returns-in_err-top_annotation
+returns-in_err-top_annotation c = search laws
 
-pub returns-in-Refused-index_at : goal.returns-in-Refused-index_at
-returns-in-Refused-index_at c = search laws
+pub returns-in_err-type_index : goal.returns-in_err-type_index
+returns-in_err-type_index c = search (laws, c.in_ok-top_annotation.ensures)
 
-pub returns-in-Refused-uleb : goal.returns-in-Refused-uleb
-returns-in-Refused-uleb c = search laws
+pub returns-in_err-count : goal.returns-in_err-count
+returns-in_err-count c = search (laws, c.in_ok-top_annotation.ensures, c.in_ok-type_index.ensures)
 
-pub returns-in-Got-uleb : goal.returns-in-Got-uleb
-returns-in-Got-uleb c = search laws
+pub returns : goal.returns
+returns c = search (laws, c.in_ok-top_annotation.ensures, c.in_ok-type_index.ensures, c.in_ok-count.ensures)

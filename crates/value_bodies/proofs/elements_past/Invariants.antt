@@ -4,8 +4,5 @@ use Rattle.encoded_value.specs.Readings.{past_named}
 use Rattle.value_bodies.specs.Bodies.{elements_past}
 use Rattle.value_bodies.proofs.elements_past.Given as goal
 
-abbrev pub invariant-loop-left : goal.invariant-loop-left
-invariant-loop-left l = Loop (elements_past l.s l.w l.from l.k) (past_named l.s l.w deepest_value) l.left l.p
-
-abbrev pub decreases-loop-left : goal.decreases-loop-left
-decreases-loop-left l = l.left
+abbrev pub invariant-loop : goal.invariant-loop
+invariant-loop l = Loop (elements_past l.s l.w l.from l.k) (past_named l.s l.w deepest_value) l.k l.counter l.p

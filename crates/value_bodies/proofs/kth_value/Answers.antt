@@ -2,14 +2,14 @@ use Rattle.value_bodies.proofs.Laws.{there_laws as laws}
 use Rattle.value_bodies.specs.Bodies.{kth_value, value_there}
 use Rattle.value_bodies.proofs.kth_value.Goals as goal
 
-pub returns-in-Refused : goal.returns-in-Refused
+pub returns-in_err-at : goal.returns-in_err-at
 unfolding kth_value value_there
-returns-in-Refused c = search laws
+returns-in_err-at c = search laws
 
-pub returns-in-Refused-decode_at : goal.returns-in-Refused-decode_at
+pub returns-in_err-value : goal.returns-in_err-value
 unfolding kth_value value_there
-returns-in-Refused-decode_at c = search laws
+returns-in_err-value c = search (laws, c.in_ok-at.ensures)
 
-pub returns-in-Got : goal.returns-in-Got
+pub returns : goal.returns
 unfolding kth_value value_there
-returns-in-Got c = search laws
+returns c = search (laws, c.in_ok-at.ensures)
