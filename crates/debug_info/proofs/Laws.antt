@@ -3,73 +3,67 @@
 use Prim.Native.Nat.{ℕ, zero, suc, ◌+◌, ◌-◌, ◌<◌, ◌≤◌}
 use mathlib.Core.Path.{◌≡◌, refl, ap, sym, ◌∙◌}
 use mathlib.Core.Bool.{Bool, true, false, cond}
-use mathlib.Core.Option.{Option, none, some}
+use mathlib.Core.Option.{Option, none}
 use mathlib.Core.List.{List}
 use lib.ListN.{length, get_or}
 use lib.Dec.{ltb, eqb}
 use borrow.Author.Rules.{rules}
 use borrow.Author.Tests.{lt-ltb, le-ltb}
 use native.Mathlib.Omega.{arith}
+use Rattle.std.specs.Prelude.{Some, None}
+use Rattle.std.specs.Prelude as S
 use Rattle.refusal.specs.Refusals.{not_there, runs_past}
 use Rattle.refusal.specs.declared.Refusal.{Refusal}
 use Rattle.refusal.specs.Outcome.{Outcome, answer, refused, ◌>>=◌, given}
 use Rattle.refusal.specs.Rows.{Found, past, collect}
 use Rattle.refusal.specs.Exact.{Row, empty, first}
-use Rattle.refusal.proofs.Laws.{said, tests, calls, bind_answer, bind_refused, refused_by, passes, fails, picks, leaves}
+use Rattle.refusal.proofs.Laws.{tests, calls, bind_answer, bind_refused, refused_by, passes, fails, picks, leaves}
 use Rattle.refusal.proofs.Rows.{bind_assoc, past_answer}
 use Rattle.refusal.proofs.Loops.{Ending, ending_first, ending_next, ending_stop, ending_full, ending_done}
 use Rattle.refusal.proofs.Choose.{Choosing, choosing_first, choosing_next, choosing_stop, choosing_done, chosen_by}
 use Rattle.leb128.specs.Leb.{uleb_at}
-use Rattle.leb128.proofs.Laws.{on_leb, on_plus_one, uleb_span, plus_one_span}
+use Rattle.leb128.proofs.Laws.{uleb_span, plus_one_span}
 use Rattle.leb128.proofs.Exactly.{uleb_exact, plus_one_exact}
 use Rattle.debug_info.specs.Debug.{named, name_at, opcode_at, program_at, Debug, debug_at, Extent, extent_at, name_of, kept_names, zero_at, Held, body_at, kept_debug_at}
 use Rattle.debug_info.specs.Rules.{NameRule}
-use Rattle.debug_info.specs.Answers.{name_meant, name_found_outcome, zero_outcome, kept_debug_outcome, debug_outcome, name_outcome}
-use Rattle.debug_info.specs.declared.Name.{Name}
-use Rattle.debug_info.specs.declared.NameFoundAnswer.{NameFoundAnswer}
-use Rattle.debug_info.specs.declared.NameFoundAnswer.TheVariants as F
-use Rattle.debug_info.specs.declared.ZeroAnswer.{ZeroAnswer}
-use Rattle.debug_info.specs.declared.ZeroAnswer.TheVariants as Z
-use Rattle.debug_info.specs.declared.KeptDebugAnswer.{KeptDebugAnswer}
-use Rattle.debug_info.specs.declared.DebugAnswer.{DebugAnswer}
-use Rattle.debug_info.specs.declared.NameAnswer.{NameAnswer}
+use Rattle.debug_info.specs.Answers.{name_meant}
 use Rattle.debug_info.proofs.Exactly.{program_exact, debug_exact}
 
 -- ---- a name that is a string, or none
-pub named_none : (strings : ℕ) → named strings none ≡ true
-unfolding named
-named_none strings = refl
+module _ {o : S.Option ℕ} (strings : ℕ) where
+  pub named_none : o ≡ None → named strings (name_meant o) ≡ true
+  unfolding named
+  named_none e = rw e
 
-pub named_below : (strings v : ℕ) → v < strings → named strings (some v) ≡ true
-unfolding named
-named_below strings v h = lt-ltb v strings h
+  pub named_below : (v : ℕ) → o ≡ Some v → v < strings → named strings (name_meant o) ≡ true
+  unfolding named
+  named_below v e h = rw e (lt-ltb v strings h)
 
-pub named_past : (strings v : ℕ) → strings ≤ v → named strings (some v) ≡ false
-unfolding named
-named_past strings v h = le-ltb v strings h
+  pub named_past : (v : ℕ) → o ≡ Some v → strings ≤ v → named strings (name_meant o) ≡ false
+  unfolding named
+  named_past v e h = rw e (le-ltb v strings h)
 
 -- ---- the loop of `names_at` at its head
-pub record Names (s : List ℕ) (strings item from count k left p i : ℕ) (kept : Name) : Type 0 where
-  pub choosing : Choosing (name_at s strings item) count from none k left p i (name_meant kept)
-  pub sum : i + left ≡ count
+pub record Names (s : List ℕ) (strings item from count k p i : ℕ) (kept : S.Option ℕ) : Type 0 where
+  pub choosing : Choosing (name_at s strings item) count from none k p i (name_meant kept)
 
-pub names_first : (s : List ℕ) (strings item from count k : ℕ) (kept : Name) → name_meant kept ≡ none → Names s strings item from count k count from 0 kept
-names_first s strings item from count k kept e = record { choosing = rw e (choosing_first (name_at s strings item) count from none k); sum = omega arith }
+pub names_first : (s : List ℕ) (strings item from count k : ℕ) → Names s strings item from count k from 0 None
+names_first s strings item from count k = record { choosing = choosing_first (name_at s strings item) count from none k }
 
-module _ {s : List ℕ} {strings item from count k left p i : ℕ} {kept : Name} (h : Names s strings item from count k left p i kept) where
-  pub names_next : {x : NameFoundAnswer} {a new : Name} {n : ℕ} → 0 < left → name_found_outcome x ≡ name_at s strings item p → x ≡ F.Got a n → new ≡ cond (eqb i k) a kept
-      → Names s strings item from count k (left - 1) n (i + 1) new
-  names_next {x} {a} {new} {n} l e t w = record { choosing = choosing_next h.choosing l (sym (ap name_found_outcome t) ∙ e) (ap name_meant w ∙ go (eqb i k)); sum = let z = h.sum in omega arith }
+module _ {s : List ℕ} {strings item from count k p i : ℕ} {kept : S.Option ℕ} (h : Names s strings item from count k p i kept) where
+  pub names_next : (a : S.Option ℕ) {new : S.Option ℕ} {n : ℕ} → i < count → answer (record { item = name_meant a; next = n }) ≡ name_at s strings item p → new ≡ cond (eqb i k) a kept
+      → Names s strings item from count k n (i + 1) new
+  names_next a l e w = record { choosing = choosing_next h.choosing l e (ap name_meant w ∙ go (eqb i k)) }
     where
       go : (b : Bool) → name_meant (cond b a kept) ≡ cond b (name_meant a) (name_meant kept)
       go true = refl
       go false = refl
 
-  pub names_stop : {x : NameFoundAnswer} {r : Refusal} → 0 < left → name_found_outcome x ≡ name_at s strings item p → x ≡ F.Refused r → refused r ≡ kept_names s strings item from count k
+  pub names_stop : {r : Refusal} → i < count → refused r ≡ name_at s strings item p → refused r ≡ kept_names s strings item from count k
   unfolding kept_names
-  names_stop l e t = choosing_stop h.choosing l (sym (ap name_found_outcome t) ∙ e)
+  names_stop l e = choosing_stop h.choosing l e
 
-  pub names_done : left ≤ 0 → answer (record { item = name_meant kept; next = p }) ≡ kept_names s strings item from count k
+  pub names_done : count ≤ i → answer (record { item = name_meant kept; next = p }) ≡ kept_names s strings item from count k
   unfolding kept_names
   names_done l = choosing_done h.choosing l
 
@@ -84,21 +78,21 @@ unfolding program_at
 head_first s item start = record { left = length s - start; enough = omega arith; ending = ending_first (opcode_at s item) (runs_past item) (λ (l : List ℕ). Unit) (length s - start) start tt }
 
 module _ {s : List ℕ} {item start p : ℕ} (h : Head s item start p) where
-  pub head_next : p < length s → 0 < get_or s p 0 → Head s item start (p + 1)
+  pub head_next : p < length s → (get_or s p 0 ≡ 0 → ⊥) → Head s item start (p + 1)
   unfolding opcode_at
   head_next i q =
       let g = h.enough in
       record {
         left = h.left - 1;
         enough = omega arith;
-        ending = ending_next h.ending (λ (l : List ℕ). Unit) (omega arith) (passes (runs_past item) (lt-ltb p (length s) i) (picks _ (lt-ltb 0 (get_or s p 0) q) refl)) (λ l k. tt);
+        ending = ending_next h.ending (λ (l : List ℕ). Unit) (omega arith) (passes (runs_past item) (lt-ltb p (length s) i) (picks _ (lt-ltb 0 (get_or s p 0) (omega arith)) refl)) (λ l k. tt);
       }
 
-  pub head_done : p < length s → get_or s p 0 ≤ 0 → answer p ≡ zero_at s item start
+  pub head_done : p < length s → get_or s p 0 ≡ 0 → answer p ≡ zero_at s item start
   unfolding zero_at opcode_at
   head_done i q =
       let g = h.enough in
-      let d = ending_done h.ending (omega arith) (passes (runs_past item) (lt-ltb p (length s) i) (leaves _ (le-ltb 0 (get_or s p 0) q) refl)) in
+      let d = ending_done h.ending (omega arith) (passes (runs_past item) (lt-ltb p (length s) i) (leaves _ (le-ltb 0 (get_or s p 0) (omega arith)) refl)) in
       sym (bind_answer past (sym d.1.1))
 
   pub head_end : {r : Refusal} → length s ≤ p → r ≡ runs_past item → refused r ≡ zero_at s item start
@@ -109,28 +103,11 @@ module _ {s : List ℕ} {item start p : ℕ} (h : Head s item start p) where
       go zero e = sym (bind_refused past (sym (ending_full e (omega arith))))
       go (suc n) e = sym (bind_refused past (sym (ending_stop e (omega arith) (fails _ refl (le-ltb p (length s) i)))))
 
--- ---- calls, by the arm that was taken
-pub on_found : {B : Type 0} {x c : NameFoundAnswer} {o : Outcome (Found (Option ℕ) ℕ)} {y : Outcome B} (k : Found (Option ℕ) ℕ → Outcome B)
-    → name_found_outcome x ≡ o → x ≡ c → y ≡ (name_found_outcome c >>= k) → y ≡ (o >>= k)
-on_found = said name_found_outcome
-
-pub on_zero : {B : Type 0} {x c : ZeroAnswer} {o : Outcome ℕ} {y : Outcome B} (k : ℕ → Outcome B) → zero_outcome x ≡ o → x ≡ c → y ≡ (zero_outcome c >>= k) → y ≡ (o >>= k)
-on_zero = said zero_outcome
-
-pub on_kept : {B : Type 0} {x c : KeptDebugAnswer} {o : Outcome Held} {y : Outcome B} (k : Held → Outcome B) → kept_debug_outcome x ≡ o → x ≡ c → y ≡ (kept_debug_outcome c >>= k) → y ≡ (o >>= k)
-on_kept = said kept_debug_outcome
-
-pub on_debug : {B : Type 0} {x c : DebugAnswer} {o : Outcome Extent} {y : Outcome B} (k : Extent → Outcome B) → debug_outcome x ≡ o → x ≡ c → y ≡ (debug_outcome c >>= k) → y ≡ (o >>= k)
-on_debug = said debug_outcome
-
-pub on_name : {B : Type 0} {x c : NameAnswer} {o : Outcome (Option ℕ)} {y : Outcome B} (k : Option ℕ → Outcome B) → name_outcome x ≡ o → x ≡ c → y ≡ (name_outcome c >>= k) → y ≡ (o >>= k)
-on_name = said name_outcome
-
 -- a program's zero byte is not before its start
-pub zero_after : (s : List ℕ) (item p : ℕ) {x : ZeroAnswer} {z : ℕ} → zero_outcome x ≡ zero_at s item p → x ≡ Z.Got z → p ≤ z
+pub zero_after : (s : List ℕ) (item p : ℕ) {z : ℕ} → answer z ≡ zero_at s item p → p ≤ z
 unfolding zero_at
-zero_after s item p {x} {z} e t =
-    let r = past_answer (program_at s item p) (sym (ap zero_outcome t) ∙ e) in
+zero_after s item p e =
+    let r = past_answer (program_at s item p) e in
     let rule = (program_exact s item p).sound r.0 (sym r.1.0) in
     let here = rule.stands.ends in
     let there = r.1.1 in
@@ -205,13 +182,10 @@ debug_lies s strings item d e =
         omega arith
 
 -- ---- what this crate's functions are searched with
-pub ruleset found_laws = (on_plus_one, named_none, named_below, named_past, calls, tests, rules)
+pub ruleset found_laws = (named_none, named_below, named_past, calls, tests, rules)
 
 pub ruleset names_laws = (names_first, names_next, names_stop, names_done, rules)
 
 pub ruleset zero_laws = (head_first, head_next, head_done, head_end, rules)
 
-pub ruleset stage_laws = (on_leb, on_found, on_zero, on_kept, zero_after, extent_by, name_by, calls, tests, rules)
-
--- what a caller's functions are
-pub ruleset laws = (on_debug, on_name)
+pub ruleset stage_laws = (zero_after, extent_by, name_by, calls, tests, rules)

@@ -15,7 +15,7 @@ abbrev pub name_meant : S.Option ℕ → Option ℕ
 name_meant = maybe (λ (v : ℕ). v)
 
 abbrev pub name_found_outcome : Result (R.Read (S.Option ℕ)) Refusal → Outcome (Found (Option ℕ) ℕ)
-name_found_outcome = outcome (found (λ (n : S.Option ℕ). name_meant n))
+name_found_outcome = outcome (found name_meant)
 
 abbrev pub zero_outcome : Result ℕ Refusal → Outcome ℕ
 zero_outcome = outcome (λ (p : ℕ). p)
@@ -27,4 +27,4 @@ abbrev pub debug_outcome : Result D.DebugOutline Refusal → Outcome Extent
 debug_outcome = outcome (λ (x : D.DebugOutline). record { line = x.line; names = x.names; start = x.start; length = x.length })
 
 abbrev pub name_outcome : Result (S.Option ℕ) Refusal → Outcome (Option ℕ)
-name_outcome = outcome (λ (n : S.Option ℕ). name_meant n)
+name_outcome = outcome name_meant

@@ -32,10 +32,10 @@ fn name_found(s: &[u8], strings: u32, item: usize, at: usize) -> Result<Read<Opt
     ensures { name_found_outcome result ≡ name_at s.now strings item at }
 {
     let name = leb128::uleb_p1(s, at, item)?;
-    if let Some(v) = name.value {
-        if strings <= v {
-            return Err(refusal::wrong_index(item));
-        }
+    if let Some(v) = name.value
+        && strings <= v
+    {
+        return Err(refusal::wrong_index(item));
     }
     Ok(name)
 }
@@ -68,13 +68,10 @@ fn names_at(
 fn zero_at(s: &[u8], item: usize, start: usize) -> Result<usize, Refusal>
     ensures { zero_outcome result ≡ zero_at s.now item start }
 {
-    let mut p = start;
-    while p < s.len() {
-        if 0 < s[p] {
-            p += 1;
-            continue;
+    for p in start..s.len() {
+        if s[p] == 0 {
+            return Ok(p);
         }
-        return Ok(p);
     }
     Err(refusal::runs_past(item))
 }
@@ -133,7 +130,7 @@ pub fn debug_at(s: &[u8], strings: u32, item: usize) -> Result<DebugOutline, Ref
     })
 }
 
-// Option<u32> k of the debug information at a place.
+// Name k of the debug information at a place.
 pub fn name_at(s: &[u8], strings: u32, item: usize, k: u32) -> Result<Option<u32>, Refusal>
     ensures { name_outcome result ≡ name_of s.now strings item k }
 {

@@ -5,14 +5,14 @@ use Rattle.debug_info.proofs.body_at.Goals as goal
 pub overflow_sub-result : goal.overflow_sub-result
 overflow_sub-result c = search laws depth 7
 
-pub returns-in-Refused : goal.returns-in-Refused
+pub returns-in_err-name : goal.returns-in_err-name
 unfolding body_at
-returns-in-Refused c = search laws depth 7
+returns-in_err-name c = search laws depth 7
 
-pub returns-in-Refused-zero_at : goal.returns-in-Refused-zero_at
+pub returns-in_err-zero : goal.returns-in_err-zero
 unfolding body_at
-returns-in-Refused-zero_at c = search laws depth 7
+returns-in_err-zero c = search laws depth 7
 
-pub returns-in-Got-zero_at : goal.returns-in-Got-zero_at
+pub returns : goal.returns
 unfolding body_at
-returns-in-Got-zero_at c = search laws depth 7
+returns c = search laws depth 7

@@ -1,8 +1,8 @@
 use Rattle.debug_info.proofs.Laws.{stage_laws as laws}
 use Rattle.debug_info.proofs.debug_at.Goals as goal
 
-pub returns-in-Refused : goal.returns-in-Refused
-returns-in-Refused c = search laws depth 7
+pub returns-in_err-line : goal.returns-in_err-line
+returns-in_err-line c = search laws depth 7
 
-pub returns-in-Got : goal.returns-in-Got
-returns-in-Got c = search laws depth 7
+pub returns : goal.returns
+returns c = search laws depth 7

@@ -2,14 +2,14 @@ use Rattle.debug_info.proofs.Laws.{stage_laws as laws}
 use Rattle.debug_info.specs.Debug.{kept_debug_at}
 use Rattle.debug_info.proofs.kept_at.Goals as goal
 
-pub returns-in-Refused : goal.returns-in-Refused
+pub returns-in_err-line : goal.returns-in_err-line
 unfolding kept_debug_at
-returns-in-Refused c = search laws depth 7
+returns-in_err-line c = search laws depth 7
 
-pub returns-in-Refused-uleb : goal.returns-in-Refused-uleb
+pub returns-in_err-count : goal.returns-in_err-count
 unfolding kept_debug_at
-returns-in-Refused-uleb c = search laws depth 7
+returns-in_err-count c = search laws depth 7
 
-pub returns-in-Got-uleb : goal.returns-in-Got-uleb
+pub returns : goal.returns
 unfolding kept_debug_at
-returns-in-Got-uleb c = search laws depth 7
+returns c = search laws depth 7

@@ -1,19 +1,15 @@
 use Rattle.debug_info.proofs.Laws.{found_laws as laws}
-use Rattle.debug_info.specs.Debug.{name_at}
+use Rattle.debug_info.specs.Debug.{named, name_at}
 use Rattle.debug_info.proofs.name_found.Goals as goal
 
-pub returns-then-value-strings : goal.returns-then-value-strings
+pub returns-in_err-name : goal.returns-in_err-name
 unfolding name_at
-returns-then-value-strings c = search laws depth 7
+returns-in_err-name c = search laws depth 7
 
-pub returns-in-Refused : goal.returns-in-Refused
-unfolding name_at
-returns-in-Refused c = search laws depth 7
+pub returns : goal.returns
+unfolding name_at named
+returns c = search laws depth 7
 
-pub returns-in-Absent : goal.returns-in-Absent
+pub returns-2 : goal.returns-2
 unfolding name_at
-returns-in-Absent c = search laws depth 7
-
-pub returns-else-value-strings : goal.returns-else-value-strings
-unfolding name_at
-returns-else-value-strings c = search laws depth 7
+returns-2 c = search laws depth 7

@@ -7,8 +7,8 @@ loop-p-init c = search laws
 pub loop-p-preserved : goal.loop-p-preserved
 loop-p-preserved c = search laws
 
-pub returns-in-loop-p : goal.returns-in-loop-p
-returns-in-loop-p c = search laws
+pub returns-then-s-p-eq0 : goal.returns-then-s-p-eq0
+returns-then-s-p-eq0 c = search laws
 
 pub returns : goal.returns
 returns c = search laws
