@@ -10,15 +10,13 @@ use borrow.Author.Tests.{lt-ltb, le-ltb, le-leb, lt-leb, eq-eqb, ne_eqb}
 use native.Mathlib.Omega.{arith}
 use Rattle.refusal.specs.Refusals.{runs_past, wrong_offset}
 use Rattle.refusal.specs.declared.Refusal.{Refusal}
-use Rattle.refusal.specs.Outcome.{Outcome, answer, refused, ◌>>=◌}
-use Rattle.refusal.proofs.Laws.{said, passes, fails}
+use Rattle.refusal.specs.Outcome.{answer, refused}
+use Rattle.refusal.proofs.Laws.{passes, fails}
 use Rattle.word.specs.Words.{u16_at, u32_at}
 use Rattle.frame.specs.declared.Frame.{Frame}
 use Rattle.frame.specs.Offsets.{allowed_or_absent}
 use Rattle.code_heads.specs.declared.CodeHead.{CodeHead}
-use Rattle.code_heads.specs.declared.CodeHeadAnswer.{CodeHeadAnswer}
 use Rattle.code_heads.specs.Heads.{code_head_at, padding, body_size}
-use Rattle.code_heads.specs.Answers.{code_head_outcome}
 
 -- ---- the head, from the values that were read
 module _ (s : List ℕ) (f : Frame) (item : ℕ) where
@@ -67,10 +65,6 @@ module _ (tries units : ℕ) where
 pub body_of_lem : (h : CodeHead) {n : ℕ} → n ≡ padding h.tries h.units → 16 + 2 * h.units + n ≡ body_size h
 unfolding body_size
 body_of_lem h e = ap (λ (x : ℕ). 16 + 2 * h.units + x) e
-
--- ---- a call, by the arm that was taken
-pub on_head : {B : Type 0} {x c : CodeHeadAnswer} {o : Outcome CodeHead} {y : Outcome B} (k : CodeHead → Outcome B) → code_head_outcome x ≡ o → x ≡ c → y ≡ (code_head_outcome c >>= k) → y ≡ (o >>= k)
-on_head = said code_head_outcome
 
 pub ruleset pad_laws = (pad_odd, pad_even, pad_none, rules)
 
