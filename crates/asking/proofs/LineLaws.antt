@@ -4,21 +4,21 @@ use Prim.Native.Nat.{ℕ, zero, suc, ◌+◌, ◌-◌, ◌*◌, ◌/◌, ◌%◌
 use mathlib.Core.Path.{◌≡◌, refl, ap, sym, ◌∙◌}
 use mathlib.Core.Bool.{Bool, true, false, cond}
 use mathlib.Core.List.{List, [], ◌∷◌, ◌++◌, append_assoc, append-nil}
-use lib.ListN.{length, take, drop, get_or, length-drop, drop_of_length-le}
-use lib.Seq.{drop-cons, drop-drop, take_all}
+use lib.ListN.{length, take, drop, get_or, drop_of_length-le}
+use lib.Seq.{drop-cons}
 use mir.Syntax.{w16, w64}
 use mir.Val.{Fits}
 use lib.Dec.{eqb}
 use borrow.Author.Rules.{rules}
-use borrow.Author.Tests.{lt-ltb, le-leb, eq-eqb, ne_eqb}
+use borrow.Author.Tests.{lt-ltb, eq-eqb, ne_eqb}
 use native.Mathlib.Nat.{pow-succ'}
 use native.Mathlib.Numerals.{add-one}
 use native.Mathlib.Omega.{arith}
 use Rattle.io.specs.Digits.{last_digits, hex_digit_ascii, IsDigitCount}
 use Rattle.report.specs.Decimal.{decimal}
-use Rattle.report.specs.Stored.{placed, Stored, content}
+use Rattle.report.specs.Stored.{Stored}
 use Rattle.report.proofs.Decimals.{decimal_small, decimal_large, digits_of_64}
-use Rattle.report.proofs.Laws.{stored_then, copy_first, copy_done}
+use Rattle.report.proofs.Laws.{stored_then, stored_nothing}
 use Rattle.asking.proofs.Laws.{front_long}
 use Rattle.asking.specs.Lines.{line, marked, chosen, Spelt, Laid}
 
@@ -45,22 +45,6 @@ same_digits (suc (suc k)) n f =
     let back : suc k - 1 ≡ k = omega arith in
     let rest : IsDigitCount 10 1 (n / 10) (suc k) = (omega arith, omega (arith, f.1), λ _. rw back (omega arith)) in
     ap (λ (ds : List ℕ). ds ++ (hex_digit_ascii (n % 10) ∷ [])) (same_digits (suc k) (n / 10) rest) ∙ ap (λ (d : ℕ). decimal (n / 10) ++ (d ∷ [])) (last_digit n) ∙ sym (decimal_large n (omega arith))
-
--- ---- a text that is handed to the part of an output from a place on
-module _ (text part out : List ℕ) (at : ℕ) (h : at + length text ≤ length out) where
-  lent_placed : part ≡ content text (take (length out - at) (drop at out)) → take at out ++ (part ++ drop (length out - at) (drop at out)) ≡ placed text at out
-  unfolding content placed
-  lent_placed e =
-      let long : length (drop at out) ≡ length out - at = length-drop at out in
-      let whole = take_all (length out - at) (drop at out) (omega arith) in
-      let none : drop (length out - at) (drop at out) ≡ [] = drop_of_length-le (drop at out) {i = length out - at} (omega arith) in
-      rw (none, append-nil, e, whole, le-leb (length text) (length (drop at out)) (omega arith), drop-drop (length text) at out)
-
-  pub lent_stored : part ≡ content text (take (length out - at) (drop at out))
-      → Stored text at out (take at out ++ (part ++ drop (length out - at) (drop at out))) (at + length text)
-  lent_stored e = record { room = h; content = lent_placed e; ends = refl }
-
-pub ruleset text_laws = (lent_stored, rules)
 
 -- ---- a number: its digits, and the space
 pub spelt_by : (n k : ℕ) (d : List ℕ) → k ≤ length d → IsDigitCount 10 1 n k → take k d ≡ last_digits 10 k n → Spelt n d k
@@ -98,7 +82,7 @@ module _ (bits word : ℕ) where
 
   pub no_word : (at : ℕ) (out : List ℕ) → at + 21 ≤ length out → (bits % 2 ≡ 1 → ⊥) → Laid (marked bits word) at out out at
   unfolding marked line
-  no_word at out h n = rw (ne_eqb (bits % 2) 1 n) (record { stored = copy_done (copy_first [] at out (omega arith)) (omega arith); few = omega arith })
+  no_word at out h n = rw (ne_eqb (bits % 2) 1 n) (record { stored = stored_nothing at out (omega arith); few = omega arith })
 
   marked_few : length (marked bits word) ≤ 1
   unfolding marked
@@ -128,7 +112,7 @@ pub laying_first : (row : List ℕ) (mask : ℕ) (out : List ℕ) → 21 * lengt
 unfolding line
 laying_first row mask out h = record {
   done = [];
-  so_far = copy_done (copy_first [] 0 out (omega arith)) (omega arith);
+  so_far = stored_nothing 0 out (omega arith);
   whole = refl;
   few = omega arith;
   room = h;

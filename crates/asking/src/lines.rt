@@ -8,8 +8,9 @@ fn put(text: &[u8], out: &mut [u8], at: usize) -> usize
     requires { at + length text.now ≤ length out.old }
     ensures { Stored text.now at out.old out.new result }
 {
-    report::text_into(text, &mut out[at..]);
-    at + text.len()
+    let end = at + text.len();
+    out[at..end].copy_from_slice(text);
+    end
 }
 
 // A number's digits, into a room of their own.
@@ -48,11 +49,9 @@ fn words_into(row: &[u64], mask: u32, out: &mut [u8]) -> usize
 {
     let mut bits = mask;
     let mut at: usize = 0;
-    let mut i: usize = 0;
-    while i < row.len() {
-        at = put_word(row[i], bits, out, at);
+    for word in row {
+        at = put_word(*word, bits, out, at);
         bits = bits / 2;
-        i += 1;
     }
     at
 }
@@ -71,17 +70,13 @@ fn write_number(n: u64) {
 }
 
 pub fn write_bytes(bytes: &[u8]) {
-    let mut i: usize = 0;
-    while i < bytes.len() {
-        write_number(bytes[i] as u64);
-        i += 1;
+    for b in bytes {
+        write_number(*b as u64);
     }
 }
 
 pub fn write_units(units: &[u16]) {
-    let mut i: usize = 0;
-    while i < units.len() {
-        write_number(units[i] as u64);
-        i += 1;
+    for unit in units {
+        write_number(*unit as u64);
     }
 }

@@ -79,9 +79,7 @@ fn read_case(room: &mut [u8], left: u32, front: u8) -> Turn
 fn first_of(room: &mut [u8], cases: u32, front: u8) -> Turn
     ensures { to_go result ≤ 4294967296 * cases - 1 }
 {
-    let mut left = cases;
-    while 0 < left {
-        left -= 1;
+    for left in (0..cases).rev() {
         let t = read_case(room, left, front);
         if t.at < t.end {
             return t;

@@ -4,7 +4,7 @@ use Prim.Native.Nat.{ℕ, ◌+◌, ◌-◌, ◌/◌, ◌%◌, ◌≤◌, ◌<◌
 use mathlib.Core.Path.{◌≡◌, refl, ap, sym, ◌∙◌}
 use mathlib.Core.Bool.{Bool, true, false}
 use mathlib.Core.List.{List, [], ◌∷◌, ◌++◌, append_assoc, append-nil}
-use lib.ListN.{length, take, drop, set, length-append, length-take, length-drop}
+use lib.ListN.{length, take, drop, set, length-append, length-take, length-drop, take-append-drop}
 use lib.Seq.{take_at, drop_at, drop-drop, set_split}
 use borrow.Author.Rules.{rules}
 use lib.Dec.{leb}
@@ -67,6 +67,11 @@ byte_placed b p out h = set_split out p b h ∙ ap (λ (k : ℕ). take p out ++ 
 
 pub stored_byte : (b p : ℕ) (out : List ℕ) → p < length out → Stored (b ∷ []) p out (set out p b) (p + 1)
 stored_byte b p out h = record { room = omega arith; content = byte_placed b p out h; ends = refl }
+
+-- no bytes
+pub stored_nothing : (p : ℕ) (out : List ℕ) → p ≤ length out → Stored [] p out out p
+unfolding placed
+stored_nothing p out h = let none : p + 0 ≡ p = omega arith in record { room = omega arith; content = sym (ap (λ (k : ℕ). take p out ++ drop k out) none ∙ take-append-drop p out); ends = omega arith }
 
 -- ---- a text, put from a place on
 module _ (text : List ℕ) (at : ℕ) (out : List ℕ) (h : at + length text ≤ length out) where

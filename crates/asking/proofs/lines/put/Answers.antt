@@ -1,4 +1,4 @@
-use Rattle.asking.proofs.LineLaws.{text_laws as laws}
+use Rattle.report.proofs.Laws.{put_laws as laws}
 use Rattle.asking.proofs.lines.put.Goals as goal
 
 pub returns : goal.returns
