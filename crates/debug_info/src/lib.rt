@@ -2,9 +2,9 @@
 // `s` ends where the data section ends, `item` is the place of the debug information.
 #![tactic(auto)]
 
-ghost use Rattle.std.specs.Prelude.{◌≡◌, cond};
-ghost use Rattle.debug_info.specs.Debug.{named, name_at, kept_names, zero_at, body_at, kept_debug_at, extent_at, name_of};
-ghost use Rattle.debug_info.specs.Answers.{name_meant, name_found_outcome, zero_outcome, kept_debug_outcome, debug_outcome, name_outcome};
+ghost use Rattle.std.specs.Prelude.{◌≡◌};
+ghost use Rattle.debug_info.specs.Debug.{name_at, kept_names, zero_at, body_at, kept_debug_at, extent_at, name_of};
+ghost use Rattle.debug_info.specs.Answers.{name_found_outcome, zero_outcome, kept_debug_outcome, debug_outcome, name_outcome};
 
 use refusal::{Read, Refusal};
 
