@@ -17,7 +17,7 @@ use Rattle.refusal.specs.Rows.{Found, collect}
 use Rattle.refusal.specs.Choose.{choose}
 use Rattle.refusal.specs.Seek.{position, later}
 use Rattle.refusal.specs.Exact.{Row, empty, first}
-use Rattle.refusal.proofs.Laws.{said, tests, calls, bind_answer, bind_refused, passes, fails}
+use Rattle.refusal.proofs.Laws.{tests, calls, bind_answer, bind_refused, passes, fails}
 use Rattle.refusal.proofs.Rows.{bind_assoc}
 use Rattle.refusal.proofs.Choose.{chosen_by, row_length}
 use Rattle.word.specs.Words.{u16_at}
@@ -27,18 +27,12 @@ use Rattle.handlers.specs.declared.HandlerJudge.{HandlerJudge}
 use Rattle.handlers.specs.Handlers as H
 use Rattle.handlers.specs.Rules.{HandlerRule}
 use Rattle.handlers.proofs.Exactly.{handler_exact, handlers_exact}
-use Rattle.handlers.proofs.Laws.{on_list}
 use Rattle.code_units.specs.Units.{units_at}
 use Rattle.code_heads.specs.declared.CodeHead.{CodeHead}
 use Rattle.code_heads.specs.Heads.{code_head_at, body_size}
-use Rattle.code_heads.proofs.Laws.{on_head}
 use Rattle.code_bodies.specs.declared.Try.{Try}
-use Rattle.code_bodies.specs.declared.TryFoundAnswer.{TryFoundAnswer}
-use Rattle.code_bodies.specs.declared.LinkAnswer.{LinkAnswer}
-use Rattle.code_bodies.specs.declared.KeptCodeAnswer.{KeptCodeAnswer}
 use Rattle.code_bodies.specs.Tries.{Run, step_at, begin, tries_at, linked, is_start, link_at, links_at, no_try, item_alone, kept_try, link_from, walk_at, kept_link}
 use Rattle.code_bodies.specs.Code.{judge_of, list_at, Code, parts_at, body_at, code_at, KeptCode, kept, kept_code_at, linked_stage, listed_stage, parts_stage, body_stage}
-use Rattle.code_bodies.specs.Answers.{try_found, link_outcome, kept_code_outcome}
 
 -- what follows a test that holds, under what comes after
 guarded : {A B : Type 0} (r : Refusal) (t : Bool) (o : Outcome A) (f : A → Outcome B) {q : Outcome B} → (o >>= f) ≡ q → (given t r o >>= f) ≡ given t r q
@@ -187,17 +181,7 @@ module _ (s : List ℕ) (f : Frame) (item : ℕ) (head : CodeHead) (t h k : ℕ)
           g ∙ (λ i. parts_stage s f.order (judge_of f item head (base i)) head (item + e i) t h k)
           ∙ passes (runs_past item) (le-leb (item + (body_size head + 8 * head.tries)) (length s) (omega arith)) refl
 
--- ---- calls, by the arm that was taken
-pub on_try : {B : Type 0} {x c : TryFoundAnswer} {o : Outcome Try} {y : Outcome B} (k : Try → Outcome B) → try_found x ≡ o → x ≡ c → y ≡ (try_found c >>= k) → y ≡ (o >>= k)
-on_try = said try_found
-
-pub on_number : {B : Type 0} {x c : LinkAnswer} {o : Outcome ℕ} {y : Outcome B} (k : ℕ → Outcome B) → link_outcome x ≡ o → x ≡ c → y ≡ (link_outcome c >>= k) → y ≡ (o >>= k)
-on_number = said link_outcome
-
-pub on_kept : {B : Type 0} {x c : KeptCodeAnswer} {o : Outcome KeptCode} {y : Outcome B} (k : KeptCode → Outcome B) → kept_code_outcome x ≡ o → x ≡ c → y ≡ (kept_code_outcome c >>= k) → y ≡ (o >>= k)
-on_kept = said kept_code_outcome
-
 -- ---- what this crate's functions are searched with
-pub ruleset stage_laws = (on_head, on_try, on_number, on_list, kept_by, calls, tests, rules)
+pub ruleset stage_laws = (kept_by, calls, tests, rules)
 
 pub ruleset body_laws = (body_low, body_short, body_long, body_by, rules)

@@ -3,7 +3,7 @@
 #![tactic(auto)]
 
 ghost use Rattle.std.specs.Prelude.{◌≡◌, ◌+◌, ◌*◌, ◌≤◌, length};
-ghost use Rattle.code_bodies.specs.Tries.{try_at, try_allowed, kept_try, kept_link};
+ghost use Rattle.code_bodies.specs.Tries.{try_at, try_allowed, kept_try, link_from, kept_link};
 ghost use Rattle.code_bodies.specs.Code.{linked_stage, listed_stage, parts_stage, body_stage, kept_code_at};
 ghost use Rattle.code_bodies.specs.Answers.{try_found, link_outcome, kept_code_outcome};
 
@@ -77,7 +77,7 @@ fn tries_found(
         count: 0,
         handler: 0,
     };
-    for i in 0..count {
+    for i in 0..count as u32 {
         let t = try_read(s, order, place);
         if is_try_allowed(units, floor, t) {
             kept = refusal::newer(i == k, t, kept);
@@ -88,6 +88,27 @@ fn tries_found(
         place += 8;
     }
     Ok(kept)
+}
+
+// The number of the handler that starts `want` from the list's first byte, of the `handlers` handlers from `first` on.
+fn link_found(
+    s: &[u8],
+    j: HandlerJudge,
+    first: usize,
+    handlers: u32,
+    want: usize,
+) -> Result<u32, Refusal>
+    ensures { link_outcome result ≡ link_from s.now j want handlers first 0 }
+{
+    let mut p = first;
+    for number in 0..handlers {
+        let Read { value: brief, next } = handlers::handler_found(s, j, p, 0)?;
+        if brief.offset == want {
+            return Ok(number);
+        }
+        p = next;
+    }
+    Err(refusal::wrong_code(j.item))
 }
 
 // The handler's number of each try, of which that of try k is kept. Each try's handler offset is looked for among the starts of the
@@ -107,23 +128,11 @@ fn links_at(
 {
     let mut place = from;
     let mut kept: u32 = 0;
-    let mut i: u32 = 0;
-    let mut left = count;
-    'tries: while 0 < left {
+    for i in 0..count as u32 {
         let want = word::u16_at(s, place + 6, order) as usize;
-        let mut p = first;
-        for number in 0..handlers {
-            let Read { value: brief, next } = handlers::handler_found(s, j, p, 0)?;
-            if brief.offset == want {
-                kept = refusal::newer(i == k, number, kept);
-                place += 8;
-                i += 1;
-                left -= 1;
-                continue 'tries;
-            }
-            p = next;
-        }
-        return Err(refusal::wrong_code(j.item));
+        let number = link_found(s, j, first, handlers, want)?;
+        kept = refusal::newer(i == k, number, kept);
+        place += 8;
     }
     Ok(kept)
 }

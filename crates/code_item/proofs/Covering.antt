@@ -7,6 +7,7 @@ use mathlib.Core.Option.{Option, none, some}
 use mathlib.Core.List.{List, [], ◌∷◌}
 use lib.ListN.{length}
 use lib.Dec.{ltb, leb}
+use Rattle.std.specs.Prelude as S
 use borrow.Author.Rules.{rules}
 use borrow.Author.Tests.{le-leb, lt-leb}
 use native.Mathlib.Omega.{arith}
@@ -14,7 +15,7 @@ use Rattle.refusal.specs.declared.Refusal.{Refusal}
 use Rattle.refusal.specs.Outcome.{Outcome, answer, refused, ◌>>=◌}
 use Rattle.refusal.specs.Seek.{position, later}
 use Rattle.refusal.specs.Exact.{Decides, At, here, there, Rising, Sought}
-use Rattle.refusal.proofs.Laws.{bind_answer}
+use Rattle.refusal.proofs.Laws.{handed_on, all_left, some_left, one_less, bind_answer}
 use Rattle.refusal.proofs.Exact.{never, answer_exact, bind_exact, below, at_most, both}
 use Rattle.refusal.proofs.Each.{rising_head, rising_tail}
 use Rattle.refusal.proofs.Seek.{position_sought}
@@ -24,45 +25,43 @@ use Rattle.frame.specs.declared.Frame.{Frame}
 use Rattle.handlers.specs.declared.Brief.{Brief}
 use Rattle.code_heads.specs.declared.CodeHead.{CodeHead}
 use Rattle.code_bodies.specs.declared.Try.{Try}
-use Rattle.code_bodies.specs.declared.KeptCodeAnswer.{KeptCodeAnswer}
-use Rattle.code_bodies.specs.declared.KeptCodeAnswer.TheVariants as K
 use Rattle.code_bodies.specs.Tries.{try_at}
 use Rattle.code_bodies.specs.Code.{Code, code_at, KeptCode, kept, kept_code_at}
 use Rattle.code_bodies.specs.Rules.{EndsBefore, CodeRule}
-use Rattle.code_bodies.specs.Answers.{kept_code_outcome}
 use Rattle.code_bodies.proofs.Exactly.{EachTry, tries_head, tries_tail, code_exact, code_lies}
 use Rattle.code_bodies.proofs.Stages.{from_number}
-use Rattle.code_item.specs.declared.CoveringTry.{CoveringTry}
 use Rattle.code_item.specs.Covering.{covers, tries_from, cover_at}
 use Rattle.code_item.specs.Code.{covering_of}
 use Rattle.code_item.specs.Answers.{cover_meant}
 
 -- ---- the loop of `cover_at` at its head: the first i tries do not cover the address
-pub record Looking (o : Endian) (s : List ℕ) (from count address left place i : ℕ) : Type 0 where
-  same : cover_at o s from count address ≡ from_number i (position (covers address) (tries_from o s place left))
-  pub sum : i + left ≡ count
-  pub room : place + 8 * left ≤ length s
+pub record Looking (o : Endian) (s : List ℕ) (from count address place i : ℕ) : Type 0 where
+  same : cover_at o s from count address ≡ from_number i (position (covers address) (tries_from o s place (count - i)))
+  pub room : place + 8 * (count - i) ≤ length s
 
-pub looking_first : (o : Endian) (s : List ℕ) (from count address : ℕ) → from + 8 * count ≤ length s → Looking o s from count address count from 0
+pub looking_first : (o : Endian) (s : List ℕ) (from count address : ℕ) → from + 8 * count ≤ length s → Looking o s from count address from 0
 unfolding cover_at
-looking_first o s from count address h = record { same = go (position (covers address) (tries_from o s from count)); sum = omega arith; room = h }
+looking_first o s from count address h = record { same = go (position (covers address) (tries_from o s from count)) ∙ ap (λ (n : ℕ). from_number 0 (position (covers address) (tries_from o s from n))) all_left; room = omega arith }
   where
     go : (x : Option ℕ) → x ≡ from_number 0 x
     go none = refl
     go (some k) = let z : k ≡ 0 + k = omega arith in ap some z
 
-module _ {o : Endian} {s : List ℕ} {from count address left place i : ℕ} (h : Looking o s from count address left place i) where
-  pub looking_room : 0 < left → place + 8 ≤ length s
+module _ {o : Endian} {s : List ℕ} {from count address place i : ℕ} (h : Looking o s from count address place i) where
+  pub looking_room : i < count → place + 8 ≤ length s
   looking_room l = let z = h.room in omega arith
 
-  module _ {start units : ℕ} {b : Bool} (l : 0 < left) (first-unit : start ≡ u32_at o s place) (count-read : units ≡ u16_at o s (place + 4)) (asked : b ≡ leb start address && ltb address (start + units)) where
+  module _ {start units : ℕ} {b : Bool} (l : i < count) (first-unit : start ≡ u32_at o s place) (count-read : units ≡ u16_at o s (place + 4)) (asked : b ≡ leb start address && ltb address (start + units)) where
     covered : b ≡ covers address (try_at o s place)
     unfolding covers
     covered = asked ∙ λ k. leb (first-unit k) address && ltb address (first-unit k + count-read k)
 
-    opened : position (covers address) (tries_from o s place left) ≡ cond b (some 0) (later (position (covers address) (tries_from o s (place + 8) (left - 1))))
+    abbrev rest : Option ℕ
+    rest = position (covers address) (tries_from o s (place + 8) (count - (i + 1)))
+
+    opened : position (covers address) (tries_from o s place (count - i)) ≡ cond b (some 0) (later rest)
     unfolding tries_from position
-    opened = go left l ∙ λ k. cond (sym covered k) (some 0) (later (position (covers address) (tries_from o s (place + 8) (left - 1))))
+    opened = go (count - i) (some_left l) ∙ λ k. cond (sym covered k) (some 0) (later (position (covers address) (tries_from o s (place + 8) (one_less l k))))
       where
         go : (n : ℕ) → 0 < n → position (covers address) (tries_from o s place n) ≡ cond (covers address (try_at o s place)) (some 0) (later (position (covers address) (tries_from o s (place + 8) (n - 1))))
         go zero q = absurd (omega arith)
@@ -73,12 +72,11 @@ module _ {o : Endian} {s : List ℕ} {from count address left place i : ℕ} (h 
     pub looking_found : b ≡ true → some i ≡ cover_at o s from count address
     looking_found e =
         let z : i + 0 ≡ i = omega arith in
-        sym (h.same ∙ ap (from_number i) (opened ∙ ap (λ (c : Bool). cond c (some 0) (later (position (covers address) (tries_from o s (place + 8) (left - 1))))) e) ∙ ap some z)
+        sym (h.same ∙ ap (from_number i) (opened ∙ ap (λ (c : Bool). cond c (some 0) (later rest)) e) ∙ ap some z)
 
-    pub looking_next : b ≡ false → Looking o s from count address (left - 1) (place + 8) (i + 1)
+    pub looking_next : b ≡ false → Looking o s from count address (place + 8) (i + 1)
     looking_next e = record {
-      same = h.same ∙ ap (from_number i) (opened ∙ ap (λ (c : Bool). cond c (some 0) (later (position (covers address) (tries_from o s (place + 8) (left - 1))))) e) ∙ go (position (covers address) (tries_from o s (place + 8) (left - 1)));
-      sum = let z = h.sum in omega arith;
+      same = h.same ∙ ap (from_number i) (opened ∙ ap (λ (c : Bool). cond c (some 0) (later rest)) e) ∙ go rest;
       room = let z = h.room in omega arith;
     }
       where
@@ -86,10 +84,10 @@ module _ {o : Endian} {s : List ℕ} {from count address left place i : ℕ} (h 
         go none = refl
         go (some k) = let z : i + suc k ≡ i + 1 + k = omega arith in ap some z
 
-  pub looking_none : left ≤ 0 → none ≡ cover_at o s from count address
+  pub looking_none : count ≤ i → none ≡ cover_at o s from count address
   unfolding tries_from position
   looking_none l =
-      let z : left ≡ 0 = omega arith in
+      let z : count - i ≡ 0 = omega arith in
       sym (h.same ∙ ap (λ (n : ℕ). from_number i (position (covers address) (tries_from o s place n))) z)
 
 module _ (start units address : ℕ) where
@@ -109,16 +107,17 @@ tries_are o s units (t ∷ l) (suc n) p e =
     let h = tries_head o s units p e in
     λ i. record { start = h.start i; count = h.count i; handler = h.handler i } ∷ tries_are o s units l n (p + 8) (tries_tail o s units p e) i
 
-module _ (s : List ℕ) (f : Frame) (item address : ℕ) {x : KeptCodeAnswer} (e : kept_code_outcome x ≡ kept_code_at s f item 0 0 0) where
-  pub covering_refused : {r : Refusal} → x ≡ K.Refused r → refused r ≡ covering_of s f item address
+module _ (s : List ℕ) (f : Frame) (item address : ℕ) where
+  pub covering_refused : {r : Refusal} → refused r ≡ kept_code_at s f item 0 0 0 → refused r ≡ covering_of s f item address
   unfolding covering_of kept_code_at ◌>>=◌
-  covering_refused {r} t = go (code_at s f item) (sym (ap kept_code_outcome t) ∙ e)
+  covering_refused {r} = go (code_at s f item)
     where
       go : (o : Outcome Code) → refused r ≡ (o >>= kept 0 0 0) → refused r ≡ (o >>= λ (c : Code). answer (position (covers address) c.tries))
       go (answer c) h = absurd (never h)
       go (refused q) h = cc
 
-  module _ {head : CodeHead} {a : Try} {l n : ℕ} {b : Brief} {from base end : ℕ} (t : x ≡ K.Got head a l n b from base end) where
+  module _ {head : CodeHead} {a : Try} {l n : ℕ} {b : Brief} {from base end : ℕ}
+      (e : answer (record { head = head; attempt = a; link = l; handlers = n; brief = b; from = from; base = base; end = end }) ≡ kept_code_at s f item 0 0 0) where
     record Behind : Type 0 where
       code : Code
       rule : CodeRule s f item code
@@ -129,7 +128,7 @@ module _ (s : List ℕ) (f : Frame) (item address : ℕ) {x : KeptCodeAnswer} (e
     unfolding kept_code_at
     behind =
         let all = bind_exact _ _ (code_exact s f item) (λ c. answer_exact _) in
-        let found = all.sound (record { head = head; attempt = a; link = l; handlers = n; brief = b; from = from; base = base; end = end }) (sym (sym (ap kept_code_outcome t) ∙ e)) in
+        let found = all.sound _ (sym e) in
         record { code = found.0; rule = found.1.0; head_is = ap (λ (k : KeptCode). k.head) found.1.1; from_is = ap (λ (k : KeptCode). k.from) found.1.1 }
 
     pub covering_room : from + 8 * head.tries ≤ length s
@@ -143,7 +142,7 @@ module _ (s : List ℕ) (f : Frame) (item address : ℕ) {x : KeptCodeAnswer} (e
         let r = w.inside in
         omega arith
 
-    pub covering_got : (v : CoveringTry) → cover_meant v ≡ cover_at f.order s from head.tries address → answer (cover_meant v) ≡ covering_of s f item address
+    pub covering_got : (v : S.Option ℕ) → cover_meant v ≡ cover_at f.order s from head.tries address → answer (cover_meant v) ≡ covering_of s f item address
     unfolding covering_of cover_at
     covering_got v g =
         let c = behind in
@@ -181,4 +180,4 @@ covering_once s f item c h address i j a b m n p q = covered_once address h.in_o
 
 pub ruleset cover_laws = (looking_first, looking_room, looking_found, looking_next, looking_none, cover_low, cover_high, rules)
 
-pub ruleset covering_laws = (covering_refused, covering_room, covering_got, rules)
+pub ruleset covering_laws = (covering_refused, covering_room, covering_got, handed_on, rules)

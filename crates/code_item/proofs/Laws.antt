@@ -1,27 +1,22 @@
 -- What the functions' proofs cite: the readings from what is kept of a code item.
 -- Assumes nothing.
-use Prim.Native.Nat.{ℕ, ◌<◌}
+use Prim.Native.Nat.{ℕ}
 use mathlib.Core.Path.{◌≡◌, refl, ◌∙◌}
-use mathlib.Core.Bool.{cond}
 use mathlib.Core.Option.{Option, none, some}
 use mathlib.Core.List.{List}
 use lib.ListN.{length, get_or}
 use lib.Dec.{ltb}
 use borrow.Author.Rules.{rules}
-use borrow.Author.Tests.{lt-ltb}
 use Rattle.refusal.specs.Refusals.{not_there}
 use Rattle.refusal.specs.Outcome.{Outcome, answer, ◌>>=◌, given}
 use Rattle.refusal.proofs.Laws.{tests, calls, passes}
 use Rattle.refusal.proofs.Rows.{bind_assoc}
 use Rattle.frame.specs.declared.Frame.{Frame}
 use Rattle.handlers.specs.declared.Pair.{Pair}
-use Rattle.handlers.specs.declared.Brief.{Brief}
 use Rattle.handlers.specs.Handlers as H
 use Rattle.code_bodies.specs.Code.{Code, code_at, KeptCode, kept, kept_code_at}
-use Rattle.code_bodies.proofs.Stages.{on_kept}
 use Rattle.code_item.specs.declared.Outline.{Outline}
-use Rattle.code_item.specs.declared.Catch.{Catch}
-use Rattle.code_item.specs.Code.{outline_at, Linked, try_of, Handed, handler_of, pair_of, catch_in, pair_in}
+use Rattle.code_item.specs.Code.{outline_at, Linked, try_of, Handed, handler_of, pair_of, pair_in}
 use Rattle.code_item.specs.Answers.{catch_meant}
 
 module _ (s : List ℕ) (f : Frame) (item : ℕ) where
@@ -34,8 +29,8 @@ module _ (s : List ℕ) (f : Frame) (item : ℕ) where
   try_of_by t e = e ∙ bind_assoc (code_at s f item) (kept t 0 0) _
 
   pub handler_of_by : (h : ℕ) {y : Outcome Handed}
-      → y ≡ (kept_code_at s f item 0 h 0 >>= λ (c : KeptCode). given (ltb h c.handlers) not_there (answer (record { offset = c.brief.offset; pairs = c.brief.pairs; all = catch_in c.brief }))) → y ≡ handler_of s f item h
-  unfolding handler_of kept_code_at catch_in ◌>>=◌
+      → y ≡ (kept_code_at s f item 0 h 0 >>= λ (c : KeptCode). given (ltb h c.handlers) not_there (answer (record { offset = c.brief.offset; pairs = c.brief.pairs; all = catch_meant c.brief.all }))) → y ≡ handler_of s f item h
+  unfolding handler_of kept_code_at ◌>>=◌
   handler_of_by h e =
       e ∙ bind_assoc (code_at s f item) (kept 0 h 0) _
       ∙ λ i. code_at s f item >>= λ (c : Code). given (ltb h (length c.handlers.handlers)) not_there (answer (record {
@@ -44,7 +39,7 @@ module _ (s : List ℕ) (f : Frame) (item : ℕ) where
         all = caught (get_or c.handlers.handlers h H.nobody).all i;
       }))
     where
-      caught : (o : Option ℕ) → cond (H.caught_in o) (some (H.address_in o)) none ≡ o
+      caught : (o : Option ℕ) → catch_meant (H.caught_in o) ≡ o
       caught none = refl
       caught (some a) = refl
 
@@ -52,12 +47,6 @@ module _ (s : List ℕ) (f : Frame) (item : ℕ) where
   unfolding pair_of kept_code_at pair_in ◌>>=◌
   pair_of_by h k e = e ∙ bind_assoc (code_at s f item) (kept 0 h k) _
 
--- a handler that is handed out
-module _ (h n : ℕ) (b : Brief) where
-  pub handler_there : (x : Catch) → h < n → catch_meant x ≡ catch_in b
-      → ◌≡◌ {A = Outcome Handed} (answer (record { offset = b.offset; pairs = b.pairs; all = catch_meant x })) (given (ltb h n) not_there (answer (record { offset = b.offset; pairs = b.pairs; all = catch_in b })))
-  handler_there x p e = passes not_there (lt-ltb h n p) (λ i. answer (record { offset = b.offset; pairs = b.pairs; all = e i }))
-
 pub ruleset part_laws = (calls, tests, rules)
 
-pub ruleset answer_laws = (on_kept, outline_by, try_of_by, handler_of_by, pair_of_by, handler_there, calls, tests, rules)
+pub ruleset answer_laws = (outline_by, try_of_by, handler_of_by, pair_of_by, calls, tests, rules)

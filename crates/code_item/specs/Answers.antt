@@ -30,4 +30,4 @@ abbrev pub cover_meant : S.Option ℕ → Option ℕ
 cover_meant = maybe (λ (n : ℕ). n)
 
 abbrev pub cover_outcome : Result (S.Option ℕ) Refusal → Outcome (Option ℕ)
-cover_outcome = outcome (λ (c : S.Option ℕ). cover_meant c)
+cover_outcome = outcome cover_meant

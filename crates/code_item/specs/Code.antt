@@ -1,6 +1,6 @@
 -- What is handed out of a code item.
-use Rattle.std.specs.Prelude.{ℕ, cond, List, length, get_or, ltb}
-use Rattle.std.proofs.Math.Option.{Option, none, some}
+use Rattle.std.specs.Prelude.{ℕ, List, length, get_or, ltb}
+use Rattle.std.proofs.Math.Option.{Option}
 use Rattle.refusal.specs.Refusals.{not_there}
 use Rattle.refusal.specs.Seek.{position}
 use Rattle.refusal.specs.Outcome.{Outcome, answer, ◌>>=◌, given}
@@ -62,8 +62,5 @@ pair_of s frame item h k = do
       (answer (get_or (get_or c.handlers.handlers h H.nobody).pairs k H.nothing)))
 
 -- ---- from what the code keeps of a handler
-unfoldable pub catch_in : Brief → Option ℕ
-catch_in b = cond b.caught (some b.all) none
-
 unfoldable pub pair_in : Brief → ℕ → Outcome Pair
 pair_in b k = given (ltb k b.pairs) not_there (answer b.pair)

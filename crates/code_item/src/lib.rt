@@ -4,8 +4,8 @@
 
 ghost use Rattle.std.specs.Prelude.{◌≡◌, ◌&&◌, ◌+◌, ◌*◌, ◌≤◌, length, ltb, leb};
 ghost use Rattle.code_item.specs.Covering.{cover_at};
-ghost use Rattle.code_item.specs.Code.{outline_at, covering_of, try_of, handler_of, pair_of, catch_in, pair_in};
-ghost use Rattle.code_item.specs.Answers.{code_outcome, try_outcome, catch_meant, handler_outcome, pair_outcome, cover_meant, cover_outcome};
+ghost use Rattle.code_item.specs.Code.{outline_at, covering_of, try_of, handler_of, pair_of, pair_in};
+ghost use Rattle.code_item.specs.Answers.{code_outcome, try_outcome, handler_outcome, pair_outcome, cover_meant, cover_outcome};
 
 use code_bodies::{KeptCode, Try};
 use code_heads::CodeHead;
@@ -31,6 +31,7 @@ pub struct NumberedTry {
     pub number: u32,
 }
 
+// A handler's offset from the list's first byte, how many pairs, and the catch-all's address where there is one.
 #[derive(Clone, Copy)]
 pub struct HandlerOutline {
     pub offset: usize,
@@ -78,16 +79,6 @@ pub fn try_at(s: &[u8], frame: Frame, item: usize, t: u32) -> Result<NumberedTry
     Err(refusal::not_there())
 }
 
-// The catch-all of a handler.
-fn catch_in(b: Brief) -> Option<u32>
-    ensures { catch_meant result ≡ catch_in b }
-{
-    if b.caught {
-        return Some(b.all);
-    }
-    None
-}
-
 // Handler h of the code item at a place.
 pub fn handler_at(s: &[u8], frame: Frame, item: usize, h: u32) -> Result<HandlerOutline, Refusal>
     ensures { handler_outcome result ≡ handler_of s.now frame item h }
@@ -101,7 +92,7 @@ pub fn handler_at(s: &[u8], frame: Frame, item: usize, h: u32) -> Result<Handler
         return Ok(HandlerOutline {
             offset: brief.offset,
             pairs: brief.pairs,
-            all: catch_in(brief),
+            all: brief.all,
         });
     }
     Err(refusal::not_there())
@@ -149,7 +140,7 @@ fn cover_at(s: &[u8], order: Endian, from: usize, count: u16, address: u32) -> O
     ensures { cover_meant result ≡ cover_at order s.now from count address }
 {
     let mut place = from;
-    for i in 0..count {
+    for i in 0..count as u32 {
         let start = word::u32_at(s, place, order);
         let units = word::u16_at(s, place + 4, order);
         if is_covering(start, units, address) {

@@ -2,10 +2,10 @@ use Rattle.code_bodies.proofs.Stages.{stage_laws as laws}
 use Rattle.code_bodies.specs.Code.{parts_stage}
 use Rattle.code_bodies.proofs.parts_at.Goals as goal
 
-pub returns-in-Refused : goal.returns-in-Refused
+pub returns-in_err-attempt : goal.returns-in_err-attempt
 unfolding parts_stage
-returns-in-Refused c = search laws depth 7
+returns-in_err-attempt c = search laws depth 7
 
-pub returns-in-Got : goal.returns-in-Got
+pub returns : goal.returns
 unfolding parts_stage
-returns-in-Got c = search laws depth 7
+returns c = search laws depth 7
