@@ -11,10 +11,10 @@ mod reasons;
 
 pub use outputs::{close_output, write_output};
 pub use reasons::tell_why;
-use refusal::{Read, Refusal};
 use std::env::{Env, FillError};
 use std::fs::Files;
 use std::io::Read;
+use verdict::Verdict;
 
 // One byte more than is taken, so that an input that is too long is known to be.
 pub const ROOM: usize = 65537;
@@ -88,12 +88,10 @@ fn show_byte(b: u8) -> bool {
 
 // A name on standard error, on one line.
 fn show_name(name: &[u8]) -> bool {
-    let mut i: usize = 0;
-    while i < name.len() {
-        if !show_byte(name[i]) {
+    for b in name {
+        if !show_byte(*b) {
             return false;
         }
-        i += 1;
     }
     true
 }
@@ -109,12 +107,7 @@ fn refuse_name(name: &[u8]) -> u8
 }
 
 // Writes what goes out for an input with this verdict, in one piece; `what` is said on standard error, `name` on standard output.
-pub fn write_report(
-    rt: &(impl Env + Print),
-    verdict: Result<Header, Refusal>,
-    what: &[u8],
-    name: &[u8],
-) -> u8
+pub fn write_report(rt: &(impl Env + Print), verdict: Verdict, what: &[u8], name: &[u8]) -> u8
     ensures { Tells (verdict_outcome verdict) result }
 {
     let mut out = [0u8; OUT];
@@ -254,13 +247,11 @@ fn check_arguments(rt: &(impl Files + Env + Print), first: usize, count: usize) 
     let mut path = io::buffer();
     let mut room = [0u8; ROOM];
     let mut worst: u8 = 0;
-    let mut i = first;
-    while i < count {
+    for i in first..count {
         worst = worse(worst, check_argument(rt, i, &mut path, &mut room));
         if worst == UNWRITTEN {
             return worst;
         }
-        i += 1;
     }
     worst
 }
