@@ -61,10 +61,7 @@ fn parameter_set_in(f: &[u8], header: Header, at: u32, p: u32) -> Result<Reached
         at as usize,
         p,
     )?;
-    Ok(Reached {
-        header,
-        place,
-    })
+    Ok(Reached { header, place })
 }
 
 fn parameter_set(f: &[u8], c: u32, e: u32, p: u32) -> Result<Reached, Refusal>

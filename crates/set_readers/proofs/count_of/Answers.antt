@@ -2,10 +2,10 @@ use Rattle.set_readers.proofs.Laws.{laws}
 use Rattle.set_readers.specs.Sets.{annotation_count}
 use Rattle.set_readers.proofs.count_of.Goals as goal
 
-pub returns-in-Refused : goal.returns-in-Refused
+pub returns-in_err-reached : goal.returns-in_err-reached
 unfolding annotation_count
-returns-in-Refused c = search laws
+returns-in_err-reached c = search laws
 
-pub returns-in-Got : goal.returns-in-Got
+pub returns : goal.returns
 unfolding annotation_count
-returns-in-Got c = search laws
+returns c = search laws

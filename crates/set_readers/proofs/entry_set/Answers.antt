@@ -2,10 +2,10 @@ use Rattle.set_readers.proofs.Laws.{laws}
 use Rattle.set_readers.specs.Sets.{entry_set}
 use Rattle.set_readers.proofs.entry_set.Goals as goal
 
-pub returns-in-Refused : goal.returns-in-Refused
+pub returns-in_err-d : goal.returns-in_err-d
 unfolding entry_set
-returns-in-Refused c = search laws
+returns-in_err-d c = search laws
 
-pub returns-in-Got : goal.returns-in-Got
+pub returns : goal.returns
 unfolding entry_set
-returns-in-Got c = search laws
+returns c = search laws

@@ -2,10 +2,10 @@ use Rattle.set_readers.proofs.Laws.{laws}
 use Rattle.set_readers.specs.Sets.{parameter_set_count}
 use Rattle.set_readers.proofs.parameter_set_count.Goals as goal
 
-pub returns-in-Refused : goal.returns-in-Refused
+pub returns-in_err-l : goal.returns-in_err-l
 unfolding parameter_set_count
-returns-in-Refused c = search laws
+returns-in_err-l c = search laws
 
-pub returns-in-Got : goal.returns-in-Got
+pub returns : goal.returns
 unfolding parameter_set_count
-returns-in-Got c = search laws
+returns c = search laws
