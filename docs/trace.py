@@ -95,9 +95,15 @@ def declared(crate, cache={}):
     return cache[crate]
 
 
+def handed_out():
+    """What crate dex hands out: `pub use crate::name;` and `pub use crate::{name, name};`."""
+    lines = re.findall(r'^pub use \w+::(?:(\w+)|\{([^}]*)\});$', open('crates/dex/src/lib.rt').read(), re.M)
+    return [name for one, several in lines for name in re.findall(r'\w+', one or several)]
+
+
 def public(crate, name):
     if crate == 'dex':
-        return bool(re.search(r'::%s;' % re.escape(name), open('crates/dex/src/lib.rt').read()))
+        return name in handed_out()
     return any(p.endswith('.rt') for p in declared(crate).get(name, ()))
 
 
@@ -189,7 +195,7 @@ def main():
         elif head[0] == 'function of `dex`':
             faults += [f'docs/TRACE.md:{number}: {said}' for said in wrong_readers(cells)]
             readers += re.findall(r'\w+', cells[0])
-    faults += [f'no row has dex::{name}' for name in re.findall(r'^pub use \w+::([a-z]\w*);$', open('crates/dex/src/lib.rt').read(), re.M) if name not in readers]
+    faults += [f'no row has dex::{name}' for name in handed_out() if name[0].islower() and name not in readers]
     for number, cells in trace:
         faults += [f'docs/TRACE.md:{number}: {said}' for said in wrong_names(cells)]
         if not any(cells[1:]):

@@ -1,6 +1,6 @@
 -- What the proofs of the directory cite: its head, the loop over entries, the three lists in turn, and entry k of one of them.
 -- Assumes nothing.
-use Prim.Native.Nat.{ℕ, ◌+◌, ◌-◌, ◌*◌, ◌<◌, ◌≤◌}
+use Prim.Native.Nat.{ℕ, ◌+◌, ◌*◌, ◌<◌, ◌≤◌}
 use mathlib.Core.Path.{◌≡◌, refl, ap, sym, subst, ◌∙◌}
 use mathlib.Core.Bool.{Bool, true, false, cond}
 use mathlib.Core.List.{List, []}
@@ -14,9 +14,8 @@ use Rattle.refusal.specs.Refusals.{not_there, runs_past}
 use Rattle.refusal.specs.declared.Refusal.{Refusal}
 use Rattle.refusal.specs.Outcome.{Outcome, answer, refused, ◌>>=◌, accepted}
 use Rattle.refusal.specs.Rows.{Found, past}
-use Rattle.refusal.proofs.Laws.{calls, tests, bind_answer, bind_refused, refused_by, passes, fails}
+use Rattle.refusal.proofs.Laws.{calls, tests, handed_on, bind_answer, bind_refused, refused_by, passes, fails}
 use Rattle.refusal.proofs.Each.{at_below}
-use Rattle.refusal.specs.Answers.{checked_outcome}
 use Rattle.refusal.proofs.Kept.{accepted_answer, accepted_refused, part_answer, part_refused}
 use Rattle.word.specs.Words.{u32_at}
 use Rattle.frame.specs.declared.Frame.{Frame}
@@ -27,27 +26,17 @@ use Rattle.annotation_lists.specs.Offsets.{word_at}
 use Rattle.annotation_directories.specs.Directories.{DirectoryEntry, Directory, head_at, entry_of, entry_at, list_at, entries_pass, list_past, lists_at, lists_pass, directory_at, directory_head, list_of, directory_entry, count_of, before_of, limit_of}
 use Rattle.annotation_directories.specs.Rules.{DirectoryEntryRule, DirectoryRule}
 use Rattle.annotation_directories.specs.declared.DirectoryHead.{DirectoryHead}
-use Rattle.refusal.specs.declared.CheckAnswer.{CheckAnswer}
-use Rattle.refusal.specs.declared.CheckAnswer.TheVariants as C
-use Rattle.annotation_lists.specs.declared.WordAnswer.{WordAnswer}
-use Rattle.annotation_lists.specs.declared.WordAnswer.TheVariants as W
-use Rattle.annotation_directories.specs.declared.DirectoryHeadAnswer.{DirectoryHeadAnswer}
-use Rattle.annotation_directories.specs.declared.DirectoryHeadAnswer.TheVariants as H
-use Rattle.annotation_directories.specs.declared.DirectoryEntryAnswer.{DirectoryEntryAnswer}
-use Rattle.annotation_directories.specs.declared.DirectoryEntryAnswer.TheVariants as E
-use Rattle.annotation_lists.specs.Answers.{word_outcome}
-use Rattle.annotation_directories.specs.Answers.{directory_entry_outcome, directory_head_outcome}
 use Rattle.annotation_lists.proofs.Fixed.{Along, along_first, along_next, along_stop, along_done, along_eight, fixed_kth}
 use Rattle.annotation_directories.proofs.Exactly.{head_exact, entry_exact, lists_exact, directory_exact}
 use Rattle.annotation_lists.proofs.Laws.{word_inside}
 
 -- ---- the head
-module _ (s : List ℕ) (f : Frame) (item : ℕ) {x : WordAnswer} {v : ℕ} where
-  pub after_eight : word_outcome x ≡ word_at s f item (item + 4) → x ≡ W.Got v → Fits w64 (length s) → Fits w64 (item + 8)
-  after_eight e t h = let z = word_inside s f item (item + 4) e t in omega arith
+module _ (s : List ℕ) (f : Frame) (item : ℕ) {v : ℕ} where
+  pub after_eight : answer v ≡ word_at s f item (item + 4) → Fits w64 (length s) → Fits w64 (item + 8)
+  after_eight e h = let z = word_inside s f item (item + 4) e in omega arith
 
-  pub after_twelve : word_outcome x ≡ word_at s f item (item + 8) → x ≡ W.Got v → Fits w64 (length s) → Fits w64 (item + 12)
-  after_twelve e t h = let z = word_inside s f item (item + 8) e t in omega arith
+  pub after_twelve : answer v ≡ word_at s f item (item + 8) → Fits w64 (length s) → Fits w64 (item + 12)
+  after_twelve e h = let z = word_inside s f item (item + 8) e in omega arith
 
 pub four_fits : (s : List ℕ) (item : ℕ) → item + 4 ≤ length s → Fits w64 (length s) → Fits w64 (item + 4)
 four_fits s item h z = omega arith
@@ -55,10 +44,10 @@ four_fits s item h z = omega arith
 pub sixteen_fits : (s : List ℕ) (item : ℕ) → item + 16 ≤ length s → Fits w64 (length s) → Fits w64 (item + 16)
 sixteen_fits s item h z = omega arith
 
-pub head_inside : (s : List ℕ) (f : Frame) (item : ℕ) {x : DirectoryHeadAnswer} {h : DirectoryHead} → directory_head_outcome x ≡ head_at s f item → x ≡ H.Got h → item + 16 ≤ length s
-head_inside s f item {h = h} e t = ((head_exact s f item).sound h (sym e ∙ ap directory_head_outcome t)).room
+pub head_inside : (s : List ℕ) (f : Frame) (item : ℕ) {h : DirectoryHead} → answer h ≡ head_at s f item → item + 16 ≤ length s
+head_inside s f item {h} e = ((head_exact s f item).sound h (sym e)).room
 
--- ---- an entry, and the loop over entries
+-- ---- an entry
 pub entry_by : (s : List ℕ) (f : Frame) (item limit p : ℕ) {i o : ℕ} {y : Outcome DirectoryEntry} → i ≡ u32_at f.order s p → o ≡ u32_at f.order s (p + 4)
     → y ≡ entry_of s f item limit i o → y ≡ entry_at s f item limit p
 unfolding entry_at
@@ -66,13 +55,6 @@ entry_by s f item limit p a b h = rw (← a, ← b) h
 
 pub eight_fits : (s : List ℕ) (p : ℕ) → p + 8 ≤ length s → Fits w64 (length s) → Fits w64 (p + 4)
 eight_fits s p h z = omega arith
-
-module _ {entry : ℕ → Outcome DirectoryEntry} {s : List ℕ} {width from count left at : ℕ} (h : Along entry s width from count left at) {x : DirectoryEntryAnswer} (l : 0 < left) (e : directory_entry_outcome x ≡ entry at) where
-  pub entry_next : {i o : ℕ} → x ≡ E.Got i o → Along entry s width from count (left - 1) (at + width)
-  entry_next t = along_next h l (sym (ap directory_entry_outcome t) ∙ e)
-
-  pub entry_stop : {B : Type 0} {r : Refusal} (f : List DirectoryEntry → Outcome B) → x ≡ E.Refused r → refused r ≡ (entries_from entry width from count >>= f)
-  entry_stop f t = along_stop h f l (sym (ap directory_entry_outcome t) ∙ e)
 
 -- ---- one of the three lists
 module _ (s : List ℕ) (f : Frame) (item limit from count : ℕ) {b : Bool} (room : b ≡ leb (from + 8 * count) (length s)) where
@@ -84,14 +66,14 @@ module _ (s : List ℕ) (f : Frame) (item limit from count : ℕ) {b : Bool} (ro
   unfolding fixed_at
   entered q = sym (passes (runs_past item) (sym room ∙ q) refl)
 
-  module _ (q : b ≡ true) {y : CheckAnswer} (g : checked_outcome y ≡ entries_pass s f item limit from count) where
-    pub list_stop : {r : Refusal} → y ≡ C.Refused r → refused r ≡ list_past s f item limit from count
+  module _ (q : b ≡ true) where
+    pub list_stop : {r : Refusal} → refused r ≡ entries_pass s f item limit from count → refused r ≡ list_past s f item limit from count
     unfolding list_at
-    list_stop u = sym (bind_refused past (bind_refused _ (entered q ∙ accepted_refused _ (sym (ap checked_outcome u) ∙ g))))
+    list_stop g = sym (bind_refused past (bind_refused _ (entered q ∙ accepted_refused _ g)))
 
-    pub list_done : y ≡ C.Accepted → answer (from + 8 * count) ≡ list_past s f item limit from count
+    pub list_done : answer tt ≡ entries_pass s f item limit from count → answer (from + 8 * count) ≡ list_past s f item limit from count
     unfolding list_at
-    list_done u = sym (bind_answer past (bind_answer _ (entered q ∙ (accepted_answer _ (sym (ap checked_outcome u) ∙ g)).1)))
+    list_done g = sym (bind_answer past (bind_answer _ (entered q ∙ (accepted_answer _ g).1)))
 
 -- ---- the three lists in turn: what code goes on with is where each ends
 then : {A : Type 0} {B : Type 0} (o : Outcome (Found A ℕ)) (k : Found A ℕ → Outcome B) (g : ℕ → Outcome Unit)
@@ -165,64 +147,63 @@ module _ (s : List ℕ) (f : Frame) (item : ℕ) where
         entries = record { count = refl; each = λ m. absurd (let z = at_below m in omega arith) };
       }
 
-  module _ {x : DirectoryHeadAnswer} (e : directory_head_outcome x ≡ directory_head s f item) where
-    pub entry_unread : (list k : ℕ) {r : Refusal} → x ≡ H.Refused r → refused r ≡ directory_entry s f item list k
-    unfolding directory_entry directory_head
-    entry_unread list k t = sym (bind_refused _ (part_refused (λ (d : Directory). d.head) (directory_at s f item) (sym e ∙ ap directory_head_outcome t)))
+  pub entry_unread : (list k : ℕ) {r : Refusal} → refused r ≡ directory_head s f item → refused r ≡ directory_entry s f item list k
+  unfolding directory_entry directory_head
+  entry_unread list k e = sym (bind_refused _ (part_refused (λ (d : Directory). d.head) (directory_at s f item) (sym e)))
 
-    module _ {h : DirectoryHead} (t : x ≡ H.Got h) where
-      whole : (d : Directory) × ((directory_at s f item ≡ answer d) × (d.head ≡ h))
-      unfolding directory_head
-      whole = part_answer (λ (d : Directory). d.head) (directory_at s f item) (sym e ∙ ap directory_head_outcome t)
+  module _ {h : DirectoryHead} (e : answer h ≡ directory_head s f item) where
+    whole : (d : Directory) × ((directory_at s f item ≡ answer d) × (d.head ≡ h))
+    unfolding directory_head
+    whole = part_answer (λ (d : Directory). d.head) (directory_at s f item) (sym e)
 
-      obeys : DirectoryRule s f item whole.0
-      obeys = (directory_exact s f item).sound whole.0 whole.1.0
+    obeys : DirectoryRule s f item whole.0
+    obeys = (directory_exact s f item).sound whole.0 whole.1.0
 
-      -- the three lists of a directory whose head was read lie inside
-      pub directory_room : item + 16 + 8 * h.fields + 8 * h.methods + 8 * h.parameters ≤ length s
-      directory_room = subst (λ (g : DirectoryHead). item + 16 + 8 * g.fields + 8 * g.methods + 8 * g.parameters ≤ length s) whole.1.1 obeys.parameters.room
+    -- the three lists of a directory whose head was read lie inside
+    pub directory_room : item + 16 + 8 * h.fields + 8 * h.methods + 8 * h.parameters ≤ length s
+    directory_room = subst (λ (g : DirectoryHead). item + 16 + 8 * g.fields + 8 * g.methods + 8 * g.parameters ≤ length s) whole.1.1 obeys.parameters.room
 
-      module _ (list k : ℕ) where
-        rule : Fixed s (DirectoryEntryRule s f item (limit_of f list)) 8 (item + 16 + 8 * before_of h list) (count_of h list) (list_of whole.0 list)
-        rule = subst (λ (g : DirectoryHead). Fixed s (DirectoryEntryRule s f item (limit_of f list)) 8 (item + 16 + 8 * before_of g list) (count_of g list) (list_of whole.0 list)) whole.1.1
-            (one_list whole.0 obeys list)
+    module _ (list k : ℕ) where
+      rule : Fixed s (DirectoryEntryRule s f item (limit_of f list)) 8 (item + 16 + 8 * before_of h list) (count_of h list) (list_of whole.0 list)
+      rule = subst (λ (g : DirectoryHead). Fixed s (DirectoryEntryRule s f item (limit_of f list)) 8 (item + 16 + 8 * before_of g list) (count_of g list) (list_of whole.0 list)) whole.1.1
+          (one_list whole.0 obeys list)
 
-        module _ {n : ℕ} (size : n ≡ count_of h list) where
-          pub entry_none : {r : Refusal} → n ≤ k → r ≡ not_there → refused r ≡ directory_entry s f item list k
+      module _ {n : ℕ} (size : n ≡ count_of h list) where
+        pub entry_none : {r : Refusal} → n ≤ k → r ≡ not_there → refused r ≡ directory_entry s f item list k
+        unfolding directory_entry
+        entry_none q made = let z = rule.entries.count in refused_by made ∙ sym (bind_answer _ whole.1.0 ∙ pick_none (list_of whole.0 list) k (omega arith))
+
+        module _ (q : k < n) {b : ℕ} (start : b ≡ before_of h list) where
+          pub entry_inside : item + 16 + 8 * (b + k) + 8 ≤ length s
+          entry_inside = let z = rule.room in omega arith
+
+          pub entry_fits : Fits w64 (length s) → Fits w64 (item + 16 + 8 * (b + k))
+          entry_fits z = let y = entry_inside in omega arith
+
+          pub entry_head : Fits w64 (length s) → Fits w64 (item + 16)
+          entry_head z = let y = entry_inside in omega arith
+
+          pub entry_behind : Fits w64 (length s) → Fits w64 (8 * (b + k))
+          entry_behind z = let y = entry_inside in omega arith
+
+          pub entry_number : Fits w64 (length s) → Fits w64 (b + k)
+          entry_number z = let y = entry_inside in omega arith
+
+          pub entry_kth : {l : ℕ} {z : Outcome DirectoryEntry} → l ≡ limit_of f list → z ≡ entry_at s f item l (item + 16 + 8 * (b + k)) → z ≡ directory_entry s f item list k
           unfolding directory_entry
-          entry_none q made = let z = rule.entries.count in refused_by made ∙ sym (bind_answer _ whole.1.0 ∙ pick_none (list_of whole.0 list) k (omega arith))
-
-          module _ (q : k < n) {b : ℕ} (start : b ≡ before_of h list) where
-            pub entry_inside : item + 16 + 8 * (b + k) + 8 ≤ length s
-            entry_inside = let z = rule.room in omega arith
-
-            pub entry_fits : Fits w64 (length s) → Fits w64 (item + 16 + 8 * (b + k))
-            entry_fits z = let y = entry_inside in omega arith
-
-            pub entry_head : Fits w64 (length s) → Fits w64 (item + 16)
-            entry_head z = let y = entry_inside in omega arith
-
-            pub entry_behind : Fits w64 (length s) → Fits w64 (8 * (b + k))
-            entry_behind z = let y = entry_inside in omega arith
-
-            pub entry_number : Fits w64 (length s) → Fits w64 (b + k)
-            entry_number z = let y = entry_inside in omega arith
-
-            pub entry_kth : {l : ℕ} {z : Outcome DirectoryEntry} → l ≡ limit_of f list → z ≡ entry_at s f item l (item + 16 + 8 * (b + k)) → z ≡ directory_entry s f item list k
-            unfolding directory_entry
-            entry_kth {l} {z} a g =
-                let there : item + 16 + 8 * (b + k) ≡ item + 16 + 8 * before_of h list + 8 * k = omega arith in
-                g ∙ (λ i. entry_at s f item (a i) (there i))
-                ∙ fixed_kth (entry_at s f item (limit_of f list)) 8 (item + 16 + 8 * before_of h list) (count_of h list) (DirectoryEntryRule s f item (limit_of f list)) (entry_exact s f item (limit_of f list)) k rule (omega arith)
-                ∙ sym (bind_answer _ whole.1.0)
+          entry_kth {l} {z} a g =
+              let there : item + 16 + 8 * (b + k) ≡ item + 16 + 8 * before_of h list + 8 * k = omega arith in
+              g ∙ (λ i. entry_at s f item (a i) (there i))
+              ∙ fixed_kth (entry_at s f item (limit_of f list)) 8 (item + 16 + 8 * before_of h list) (count_of h list) (DirectoryEntryRule s f item (limit_of f list)) (entry_exact s f item (limit_of f list)) k rule (omega arith)
+              ∙ sym (bind_answer _ whole.1.0)
 
 pub ruleset head_laws = (word_inside, after_eight, after_twelve, four_fits, calls, tests, rules)
 
 pub ruleset entry_laws = (entry_by, eight_fits, calls, tests, rules)
 
-pub ruleset entries_laws = (along_first, entry_next, entry_stop, along_done, along_eight, rules)
+pub ruleset entries_laws = (along_first, along_next, along_stop, along_done, along_eight, rules)
 
-pub ruleset list_laws = (list_long, list_stop, list_done, room_there, room_fits, rules)
+pub ruleset list_laws = (list_long, list_stop, list_done, room_there, room_fits, handed_on, rules)
 
 pub ruleset lists_laws = (lists_by, sixteen_fits, calls, rules)
 
@@ -230,4 +211,4 @@ pub ruleset directory_laws = (directory_by, head_inside, calls, rules)
 
 pub ruleset number_laws = (tests, rules)
 
-pub ruleset kth_laws = (entry_unread, entry_none, entry_kth, entry_inside, entry_fits, entry_head, entry_behind, entry_number, rules)
+pub ruleset kth_laws = (entry_unread, entry_none, entry_kth, entry_inside, entry_fits, entry_head, entry_behind, entry_number, handed_on, rules)

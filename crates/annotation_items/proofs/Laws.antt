@@ -8,38 +8,39 @@ use borrow.Author.Rules.{rules}
 use native.Mathlib.Omega.{arith}
 use mir.Syntax.{w64}
 use mir.Val.{Fits}
+use Rattle.refusal.specs.declared.Refusal.{Refusal}
 use Rattle.refusal.specs.Outcome.{Outcome, answer, refused, ◌>>=◌}
 use Rattle.refusal.specs.Rows.{Found, past}
-use Rattle.refusal.proofs.Laws.{calls, tests}
+use Rattle.refusal.proofs.Laws.{calls, tests, on_ok, on_err}
 use Rattle.frame.specs.declared.Frame.{Frame}
 use Rattle.value_heads.specs.declared.Walk.{Walk}
-use Rattle.encoded_value.specs.declared.StepAnswer.{StepAnswer}
 use Rattle.value_heads.specs.Kinds.{walk_of}
 use Rattle.encoded_value.specs.Tree.{Named, Annotation}
 use Rattle.encoded_value.specs.Depth.{deepest}
 use Rattle.encoded_value.specs.Readings.{annotation_at, past_annotation}
-use Rattle.encoded_value.specs.Answers.{step_outcome}
 use Rattle.decoded_value.specs.Shown.{shown}
-use Rattle.value_bodies.specs.declared.AnnotationHeadAnswer.{AnnotationHeadAnswer}
 use Rattle.value_bodies.specs.Bodies.{Noted, ShownElement, pick, annotation_noted, annotation_element}
-use Rattle.value_bodies.specs.Answers.{annotation_head_outcome}
 use Rattle.annotation_items.specs.Items.{AnnotationItem, Summary, visibility_at, item_at, item_visibility, item_summary, item_element}
-use Rattle.annotation_items.specs.declared.VisibilityAnswer.{VisibilityAnswer}
-use Rattle.annotation_items.specs.declared.VisibilityAnswer.TheVariants as N
-use Rattle.annotation_items.specs.Answers.{visibility_outcome}
 use Rattle.annotation_items.proofs.Exactly.{visibility_exact}
 
 -- the body behind a visibility that was read
-pub body_fits : (s : List ℕ) (item : ℕ) {x : VisibilityAnswer} {v : ℕ} → visibility_outcome x ≡ visibility_at s item → x ≡ N.Got v → Fits w64 (length s) → Fits w64 (item + 1)
-body_fits s item {v = v} e t h = let z = ((visibility_exact s item).sound v (sym e ∙ ap visibility_outcome t)).0 in omega arith
+pub body_fits : (s : List ℕ) (item : ℕ) {v : ℕ} → answer v ≡ visibility_at s item → Fits w64 (length s) → Fits w64 (item + 1)
+body_fits s item {v} e h = let z = ((visibility_exact s item).sound v (sym e)).0 in omega arith
 
 -- a call over the walk w, which is the item's walk v
 module _ (s : List ℕ) (p : ℕ) {v w : Walk} where
-  pub on_body : {B : Type 0} {x c : StepAnswer} {y : Outcome B} (k : ℕ → Outcome B) → w ≡ v → step_outcome x ≡ past_annotation s w deepest p → x ≡ c → y ≡ (step_outcome c >>= k) → y ≡ (past_annotation s v deepest p >>= k)
-  on_body k a e t h = said step_outcome k (e ∙ ap (λ (u : Walk). past_annotation s u deepest p) a) t h
+  pub body_read : {B : Type 0} {q : ℕ} {y : Outcome B} (k : ℕ → Outcome B) → w ≡ v → answer q ≡ past_annotation s w deepest p → y ≡ k q → y ≡ (past_annotation s v deepest p >>= k)
+  body_read k a e h = on_ok k (e ∙ ap (λ (u : Walk). past_annotation s u deepest p) a) h
 
-  pub on_noted : {B : Type 0} {x c : AnnotationHeadAnswer} {y : Outcome B} (k : Noted → Outcome B) → w ≡ v → annotation_head_outcome x ≡ annotation_noted s w p → x ≡ c → y ≡ (annotation_head_outcome c >>= k) → y ≡ (annotation_noted s v p >>= k)
-  on_noted k a e t h = said annotation_head_outcome k (e ∙ ap (λ (u : Walk). annotation_noted s u p) a) t h
+  pub body_unread : {B : Type 0} {r : Refusal} (k : ℕ → Outcome B) → w ≡ v → refused r ≡ past_annotation s w deepest p → refused r ≡ (past_annotation s v deepest p >>= k)
+  body_unread k a e = on_err k (e ∙ ap (λ (u : Walk). past_annotation s u deepest p) a)
+
+  pub head_read : {B : Type 0} {n c : ℕ} {y : Outcome B} (k : Noted → Outcome B) → w ≡ v → answer (record { type_index = n; count = c }) ≡ annotation_noted s w p → y ≡ k (record { type_index = n; count = c })
+      → y ≡ (annotation_noted s v p >>= k)
+  head_read k a e h = on_ok k (e ∙ ap (λ (u : Walk). annotation_noted s u p) a) h
+
+  pub head_unread : {B : Type 0} {r : Refusal} (k : Noted → Outcome B) → w ≡ v → refused r ≡ annotation_noted s w p → refused r ≡ (annotation_noted s v p >>= k)
+  head_unread k a e = on_err k (e ∙ ap (λ (u : Walk). annotation_noted s u p) a)
 
   pub on_element : (k : ℕ) {y : Outcome ShownElement} → w ≡ v → y ≡ annotation_element s w p k → y ≡ annotation_element s v p k
   on_element k a e = e ∙ ap (λ (u : Walk). annotation_element s u p k) a
@@ -79,4 +80,4 @@ module _ (s : List ℕ) (f : Frame) (item : ℕ) where
       go (answer v) (refused r) = refl
       go (refused r) p = refl
 
-pub ruleset laws = (visibility_by, summary_by, element_by, on_body, on_element, body_fits, calls, tests, rules)
+pub ruleset laws = (visibility_by, summary_by, element_by, body_read, body_unread, head_read, head_unread, on_element, body_fits, calls, tests, rules)

@@ -1,6 +1,6 @@
 -- Lists of fixed-width entries: exact where their entries are, the k-th is there, and the loop that goes over them.
 -- Assumes nothing.
-use Prim.Native.Nat.{ℕ, zero, suc, ◌+◌, ◌-◌, ◌*◌, ◌<◌, ◌≤◌}
+use Prim.Native.Nat.{ℕ, ◌+◌, ◌*◌, ◌<◌, ◌≤◌}
 use mathlib.Core.Path.{◌≡◌, ap, sym, ◌∙◌}
 use mathlib.Core.List.{List}
 use lib.ListN.{length}
@@ -35,53 +35,44 @@ module _ {A : Type 0} (entry : ℕ → Outcome A) (width from count : ℕ) where
         let m = at_some l k (let z = h.entries.count in omega arith) in
         (exact (from + width * k)).complete m.0 (h.entries.each m.1) ∙ sym (pick_there m.1)
 
--- A loop over such a list at its head: `left` entries are still to come, the next of them at a place inside.
-pub record Along {A : Type 0} (entry : ℕ → Outcome A) (s : List ℕ) (width from count left at : ℕ) : Type 0 where
-  pub number : ℕ
-  pub numbers : Numbers (λ (k : ℕ). entry (from + width * k)) count left number
-  pub here_is : from + width * number ≡ at
-  pub room : at + width * left ≤ length s
+-- A loop over such a list at its head: k entries are past, the next one is at a place inside.
+pub record Along {A : Type 0} (entry : ℕ → Outcome A) (s : List ℕ) (width from count k at : ℕ) : Type 0 where
+  pub numbers : Numbers (λ (k : ℕ). entry (from + width * k)) count k
+  pub here_is : from + width * k ≡ at
+  pub room : from + width * count ≤ length s
 
-wider : (w k : ℕ) → w * (k + 1) ≡ w * k + w
-wider w k = omega arith
-
-narrower : (w n : ℕ) → 0 < n → w * n ≡ w + w * (n - 1)
-narrower w zero p = absurd (omega arith)
-narrower w (suc n) p =
-    let back : suc n - 1 ≡ n = omega arith in
-    rw back (omega arith)
-
-pub along_first : {A : Type 0} (entry : ℕ → Outcome A) (s : List ℕ) (width from count : ℕ) → from + width * count ≤ length s → Along entry s width from count count from
+pub along_first : {A : Type 0} (entry : ℕ → Outcome A) (s : List ℕ) (width from count : ℕ) → from + width * count ≤ length s → Along entry s width from count 0 from
 along_first entry s width from count h = record {
-  number = 0;
   numbers = numbers_first (λ (k : ℕ). entry (from + width * k)) count;
   here_is = omega arith;
   room = h;
 }
 
-module _ {A : Type 0} {entry : ℕ → Outcome A} {s : List ℕ} {width from count left at : ℕ} (h : Along entry s width from count left at) where
-  there_too : {o : Outcome A} → o ≡ entry at → o ≡ entry (from + width * h.number)
+wider : (w k : ℕ) → w * (k + 1) ≡ w * k + w
+wider w k = omega arith
+
+module _ {A : Type 0} {entry : ℕ → Outcome A} {s : List ℕ} {width from count k at : ℕ} (h : Along entry s width from count k at) where
+  there_too : {o : Outcome A} → o ≡ entry at → o ≡ entry (from + width * k)
   there_too e = e ∙ ap entry (sym h.here_is)
 
-  pub along_next : {a : A} → 0 < left → answer a ≡ entry at → Along entry s width from count (left - 1) (at + width)
+  pub along_next : {a : A} → k < count → answer a ≡ entry at → Along entry s width from count (k + 1) (at + width)
   along_next l e = record {
-    number = h.number + 1;
     numbers = numbers_next h.numbers l (there_too e);
-    here_is = let w = wider width h.number in let z = h.here_is in omega arith;
-    room = let w = narrower width left l in let z = h.room in omega arith;
+    here_is = let w = wider width k in let z = h.here_is in omega arith;
+    room = h.room;
   }
 
-  pub along_stop : {B : Type 0} {r : Refusal} (f : List A → Outcome B) → 0 < left → refused r ≡ entry at → refused r ≡ (entries_from entry width from count >>= f)
+  pub along_stop : {B : Type 0} {r : Refusal} (f : List A → Outcome B) → k < count → refused r ≡ entry at → refused r ≡ (entries_from entry width from count >>= f)
   unfolding entries_from
   along_stop f l e = numbers_stop h.numbers f l (there_too e)
 
-  pub along_done : left ≤ 0 → answer tt ≡ (entries_from entry width from count >>= accepted)
+  pub along_done : count ≤ k → answer tt ≡ (entries_from entry width from count >>= accepted)
   unfolding entries_from
   along_done l = numbers_done h.numbers l
 
 -- the next entry lies inside
-pub along_four : {A : Type 0} {entry : ℕ → Outcome A} {s : List ℕ} {from count left at : ℕ} → Along entry s 4 from count left at → 0 < left → at + 4 ≤ length s
-along_four h l = let z = h.room in omega arith
+pub along_four : {A : Type 0} {entry : ℕ → Outcome A} {s : List ℕ} {from count k at : ℕ} → Along entry s 4 from count k at → k < count → at + 4 ≤ length s
+along_four h l = let y = h.here_is in let z = h.room in omega arith
 
-pub along_eight : {A : Type 0} {entry : ℕ → Outcome A} {s : List ℕ} {from count left at : ℕ} → Along entry s 8 from count left at → 0 < left → at + 8 ≤ length s
-along_eight h l = let z = h.room in omega arith
+pub along_eight : {A : Type 0} {entry : ℕ → Outcome A} {s : List ℕ} {from count k at : ℕ} → Along entry s 8 from count k at → k < count → at + 8 ≤ length s
+along_eight h l = let y = h.here_is in let z = h.room in omega arith

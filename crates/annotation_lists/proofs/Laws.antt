@@ -1,6 +1,6 @@
 -- What the proofs of the lists of offsets cite: words, the loop over offsets, and the stages of a list.
 -- Assumes nothing.
-use Prim.Native.Nat.{ℕ, ◌+◌, ◌-◌, ◌*◌, ◌<◌, ◌≤◌}
+use Prim.Native.Nat.{ℕ, ◌+◌, ◌*◌, ◌<◌, ◌≤◌}
 use mathlib.Core.Path.{◌≡◌, refl, ap, sym, ◌∙◌}
 use mathlib.Core.Bool.{Bool, true, false}
 use mathlib.Core.List.{List}
@@ -12,11 +12,9 @@ use mir.Syntax.{w64}
 use mir.Val.{Fits}
 use Rattle.refusal.specs.Refusals.{not_there, runs_past}
 use Rattle.refusal.specs.declared.Refusal.{Refusal}
-use Rattle.refusal.specs.Outcome.{Outcome, answer, refused, ◌>>=◌, accepted}
-use Rattle.refusal.proofs.Laws.{calls, tests, bind_answer, bind_refused, refused_by, passes, fails}
-use Rattle.refusal.specs.Answers.{checked_outcome}
+use Rattle.refusal.specs.Outcome.{Outcome, answer, refused}
+use Rattle.refusal.proofs.Laws.{calls, tests, handed_on, bind_answer, bind_refused, refused_by, passes, fails}
 use Rattle.refusal.proofs.Kept.{accepted_answer, accepted_refused, part_answer, part_refused}
-use Rattle.refusal.proofs.Exact.{answers_equal, never}
 use Rattle.word.proofs.Laws.{room_there}
 use Rattle.word.specs.Words.{u32_at}
 use Rattle.frame.specs.declared.Frame.{Frame}
@@ -24,45 +22,32 @@ use Rattle.value_bodies.proofs.Picks.{pick_none}
 use Rattle.annotation_lists.specs.Fixed.{entries_from, fixed_at}
 use Rattle.annotation_lists.specs.Offsets.{word_at, offset_of, offset_at, offsets_at, offset_count, offset_number, offsets_pass}
 use Rattle.annotation_lists.specs.Rules.{OffsetRule, OffsetsRule}
-use Rattle.refusal.specs.declared.CheckAnswer.{CheckAnswer}
-use Rattle.refusal.specs.declared.CheckAnswer.TheVariants as C
-use Rattle.annotation_lists.specs.declared.WordAnswer.{WordAnswer}
-use Rattle.annotation_lists.specs.declared.WordAnswer.TheVariants as W
-use Rattle.annotation_lists.specs.Answers.{word_outcome}
 use Rattle.annotation_lists.proofs.Fixed.{Along, along_first, along_next, along_stop, along_done, along_four, entries_exact, fixed_kth}
 use Rattle.annotation_lists.proofs.Exactly.{word_exact, offset_exact, offsets_exact}
 
 -- a word that was read lies inside
-pub word_inside : (s : List ℕ) (f : Frame) (item p : ℕ) {x : WordAnswer} {v : ℕ} → word_outcome x ≡ word_at s f item p → x ≡ W.Got v → p + 4 ≤ length s
-word_inside s f item p {v = v} e t = ((word_exact s f item p).sound v (sym e ∙ ap word_outcome t)).0
+pub word_inside : (s : List ℕ) (f : Frame) (item p : ℕ) {v : ℕ} → answer v ≡ word_at s f item p → p + 4 ≤ length s
+word_inside s f item p {v} e = ((word_exact s f item p).sound v (sym e)).0
 
-pub word_after : (s : List ℕ) (f : Frame) (item p : ℕ) {x : WordAnswer} {v : ℕ} → word_outcome x ≡ word_at s f item p → x ≡ W.Got v → Fits w64 (length s) → Fits w64 (p + 4)
-word_after s f item p e t h = let z = word_inside s f item p e t in omega arith
+pub word_after : (s : List ℕ) (f : Frame) (item p : ℕ) {v : ℕ} → answer v ≡ word_at s f item p → Fits w64 (length s) → Fits w64 (p + 4)
+word_after s f item p e h = let z = word_inside s f item p e in omega arith
 
 pub offset_by : (s : List ℕ) (f : Frame) (item : ℕ) (absent four : Bool) (p : ℕ) {v : ℕ} {y : Outcome ℕ}
     → v ≡ u32_at f.order s p → y ≡ offset_of s f item absent four v → y ≡ offset_at s f item absent four p
 unfolding offset_at
 offset_by s f item absent four p e h = rw (← e) h
 
--- the loop over offsets
-module _ {entry : ℕ → Outcome ℕ} {s : List ℕ} {width from count left at : ℕ} (h : Along entry s width from count left at) {x : WordAnswer} (l : 0 < left) (e : word_outcome x ≡ entry at) where
-  pub word_next : {v : ℕ} → x ≡ W.Got v → Along entry s width from count (left - 1) (at + width)
-  word_next t = along_next h l (sym (ap word_outcome t) ∙ e)
-
-  pub word_stop : {B : Type 0} {r : Refusal} (f : List ℕ → Outcome B) → x ≡ W.Refused r → refused r ≡ (entries_from entry width from count >>= f)
-  word_stop f t = along_stop h f l (sym (ap word_outcome t) ∙ e)
-
 -- ---- the stages of a list
 module _ (s : List ℕ) (f : Frame) (item : ℕ) (absent four : Bool) where
-  module _ {x : WordAnswer} (e : word_outcome x ≡ word_at s f item item) where
-    pub count_unread : {r : Refusal} → x ≡ W.Refused r → refused r ≡ offset_count s f item absent four
-    unfolding offset_count offsets_at
-    count_unread t = sym (bind_refused _ (bind_refused _ (sym e ∙ ap word_outcome t)))
+  pub count_unread : {r : Refusal} → refused r ≡ word_at s f item item → refused r ≡ offset_count s f item absent four
+  unfolding offset_count offsets_at
+  count_unread e = sym (bind_refused _ (bind_refused _ (sym e)))
 
-    module _ {n : ℕ} (t : x ≡ W.Got n) {b : Bool} (room : b ≡ leb (item + 4 + 4 * n) (length s)) where
+  module _ {n : ℕ} (e : answer n ≡ word_at s f item item) where
+    module _ {b : Bool} (room : b ≡ leb (item + 4 + 4 * n) (length s)) where
       past_size : offsets_at s f item absent four ≡ fixed_at s item (offset_at s f item absent four) 4 (item + 4) n
       unfolding offsets_at
-      past_size = bind_answer _ (sym e ∙ ap word_outcome t)
+      past_size = bind_answer _ (sym e)
 
       pub count_long : {r : Refusal} → b ≡ false → r ≡ runs_past item → refused r ≡ offset_count s f item absent four
       unfolding offset_count fixed_at
@@ -72,63 +57,62 @@ module _ (s : List ℕ) (f : Frame) (item : ℕ) (absent four : Bool) where
       unfolding fixed_at
       entered q = past_size ∙ sym (passes (runs_past item) (sym room ∙ q) refl)
 
-      module _ (q : b ≡ true) {y : CheckAnswer} (g : checked_outcome y ≡ offsets_pass s f item absent four (item + 4) n) where
-        pub count_stop : {r : Refusal} → y ≡ C.Refused r → refused r ≡ offset_count s f item absent four
+      module _ (q : b ≡ true) where
+        pub count_stop : {r : Refusal} → refused r ≡ offsets_pass s f item absent four (item + 4) n → refused r ≡ offset_count s f item absent four
         unfolding offset_count
-        count_stop u = sym (bind_refused _ (entered q ∙ accepted_refused _ (sym (ap checked_outcome u) ∙ g)))
+        count_stop g = sym (bind_refused _ (entered q ∙ accepted_refused _ g))
 
-        pub count_done : y ≡ C.Accepted → answer n ≡ offset_count s f item absent four
+        pub count_done : answer tt ≡ offsets_pass s f item absent four (item + 4) n → answer n ≡ offset_count s f item absent four
         unfolding offset_count
-        count_done u =
-            let all = accepted_answer _ (sym (ap checked_outcome u) ∙ g) in
+        count_done g =
+            let all = accepted_answer _ g in
             let each = (entries_exact (offset_at s f item absent four) 4 (item + 4) n (OffsetRule s f item absent four) (offset_exact s f item absent four)).sound all.0 all.1 in
             sym (bind_answer _ (entered q ∙ all.1) ∙ ap answer each.count)
 
-  module _ {x : WordAnswer} (e : word_outcome x ≡ offset_count s f item absent four) where
-    pub number_unread : (k : ℕ) {r : Refusal} → x ≡ W.Refused r → refused r ≡ offset_number s f item absent four k
-    unfolding offset_number offset_count
-    number_unread k t = sym (bind_refused _ (part_refused length (offsets_at s f item absent four) (sym e ∙ ap word_outcome t)))
+  pub number_unread : (k : ℕ) {r : Refusal} → refused r ≡ offset_count s f item absent four → refused r ≡ offset_number s f item absent four k
+  unfolding offset_number offset_count
+  number_unread k e = sym (bind_refused _ (part_refused length (offsets_at s f item absent four) (sym e)))
 
-    module _ {n : ℕ} (t : x ≡ W.Got n) where
-      whole : (l : List ℕ) × ((offsets_at s f item absent four ≡ answer l) × (length l ≡ n))
-      unfolding offset_count
-      whole = part_answer length (offsets_at s f item absent four) (sym e ∙ ap word_outcome t)
+  module _ {n : ℕ} (e : answer n ≡ offset_count s f item absent four) where
+    whole : (l : List ℕ) × ((offsets_at s f item absent four ≡ answer l) × (length l ≡ n))
+    unfolding offset_count
+    whole = part_answer length (offsets_at s f item absent four) (sym e)
 
-      rule : OffsetsRule s f item absent four whole.0
-      rule = (offsets_exact s f item absent four).sound whole.0 whole.1.0
+    rule : OffsetsRule s f item absent four whole.0
+    rule = (offsets_exact s f item absent four).sound whole.0 whole.1.0
 
-      -- a list whose size was read lies inside
-      pub count_room : item + 4 + 4 * n ≤ length s
-      count_room = let a = whole.1.1 in let b = rule.offsets.entries.count in let c = rule.offsets.room in omega arith
+    -- a list whose size was read lies inside
+    pub count_room : item + 4 + 4 * n ≤ length s
+    count_room = let a = whole.1.1 in let b = rule.offsets.entries.count in let c = rule.offsets.room in omega arith
 
-      module _ (k : ℕ) where
-        pub number_none : {r : Refusal} → n ≤ k → r ≡ not_there → refused r ≡ offset_number s f item absent four k
+    module _ (k : ℕ) where
+      pub number_none : {r : Refusal} → n ≤ k → r ≡ not_there → refused r ≡ offset_number s f item absent four k
+      unfolding offset_number
+      number_none h made = let z = whole.1.1 in refused_by made ∙ sym (bind_answer _ whole.1.0 ∙ pick_none whole.0 k (omega arith))
+
+      module _ (h : k < n) where
+        below_count : k < u32_at f.order s item
+        below_count = let a = whole.1.1 in let b = rule.offsets.entries.count in omega arith
+
+        pub number_inside : item + 4 + 4 * k ≤ length s
+        number_inside = let a = below_count in let b = rule.offsets.room in omega arith
+
+        pub number_fits : Fits w64 (length s) → Fits w64 (item + 4 + 4 * k)
+        number_fits z = let a = number_inside in omega arith
+
+        pub number_head : Fits w64 (length s) → Fits w64 (item + 4)
+        number_head z = let a = rule.room in omega arith
+
+        pub number_kth : {z : Outcome ℕ} → z ≡ offset_at s f item absent four (item + 4 + 4 * k) → z ≡ offset_number s f item absent four k
         unfolding offset_number
-        number_none h made = let z = whole.1.1 in refused_by made ∙ sym (bind_answer _ whole.1.0 ∙ pick_none whole.0 k (omega arith))
-
-        module _ (h : k < n) where
-          below_count : k < u32_at f.order s item
-          below_count = let a = whole.1.1 in let b = rule.offsets.entries.count in omega arith
-
-          pub number_inside : item + 4 + 4 * k ≤ length s
-          number_inside = let a = below_count in let b = rule.offsets.room in omega arith
-
-          pub number_fits : Fits w64 (length s) → Fits w64 (item + 4 + 4 * k)
-          number_fits z = let a = number_inside in omega arith
-
-          pub number_head : Fits w64 (length s) → Fits w64 (item + 4)
-          number_head z = let a = rule.room in omega arith
-
-          pub number_kth : {z : Outcome ℕ} → z ≡ offset_at s f item absent four (item + 4 + 4 * k) → z ≡ offset_number s f item absent four k
-          unfolding offset_number
-          number_kth g =
-              g ∙ fixed_kth (offset_at s f item absent four) 4 (item + 4) (u32_at f.order s item) (OffsetRule s f item absent four) (offset_exact s f item absent four) k rule.offsets below_count
-              ∙ sym (bind_answer _ whole.1.0)
+        number_kth g =
+            g ∙ fixed_kth (offset_at s f item absent four) 4 (item + 4) (u32_at f.order s item) (OffsetRule s f item absent four) (offset_exact s f item absent four) k rule.offsets below_count
+            ∙ sym (bind_answer _ whole.1.0)
 
 pub ruleset word_laws = (offset_by, tests, calls, rules)
 
-pub ruleset offset_laws = (along_first, word_next, word_stop, along_done, along_four, rules)
+pub ruleset offset_laws = (along_first, along_next, along_stop, along_done, along_four, handed_on, rules)
 
-pub ruleset count_laws = (count_unread, count_long, count_stop, count_done, room_there, word_after, rules)
+pub ruleset count_laws = (count_unread, count_long, count_stop, count_done, room_there, word_after, handed_on, rules)
 
-pub ruleset number_laws = (number_unread, number_none, number_kth, number_fits, number_head, rules)
+pub ruleset number_laws = (number_unread, number_none, number_kth, number_fits, number_head, handed_on, rules)

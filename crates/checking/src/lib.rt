@@ -32,12 +32,11 @@ const UNREAD: u8 = 2;
 
 pub const UNWRITTEN: u8 = 3;
 
-// An input that was read: how many bytes its name has and it has; and what it comes to where it was not read, 0 where it was.
+// An input that was read: how many bytes its name has and it has. In its place, as an error, what one comes to that was not read.
 #[derive(Clone, Copy)]
 pub struct Input {
     pub name: usize,
     pub length: usize,
-    pub status: u8,
 }
 
 // The worse of two.
@@ -129,17 +128,6 @@ fn check_bytes(rt: &(impl Env + Print), f: &[u8], what: &[u8], name: &[u8]) -> u
     write_report(rt, file_report::input_verdict(f), what, name)
 }
 
-// An input that was not read, and what it comes to.
-fn unread(status: u8) -> Input
-    ensures { Within result.name result.length 0 0 }
-{
-    Input {
-        name: 0,
-        length: 0,
-        status,
-    }
-}
-
 // Reads until a room is full, the input ends or a read fails.
 fn read_full(from: &mut impl Read, room: &mut [u8]) -> std::io::Result<usize>
     ensures { IfOk result (λ n. n ≤ length room.old) }
@@ -155,72 +143,69 @@ fn read_full(from: &mut impl Read, room: &mut [u8]) -> std::io::Result<usize>
     Ok(done)
 }
 
-// An input, of which `what` is said on standard error, read whole into a lent room. Where its bytes run out one more read tells whether it ends there, so that an
-// input whose reading failed, or that grew, is not taken for a short one.
-fn read_whole(from: &mut impl Read, what: &[u8], room: &mut [u8]) -> Input
-    ensures { Within result.name result.length 0 (length room.old) }
+// An input, of which `what` is said on standard error, read whole into a lent room: how many bytes it has. Where its bytes run out one more read tells whether it
+// ends there, so that an input whose reading failed, or that grew, is not taken for a short one.
+fn read_whole(from: &mut impl Read, what: &[u8], room: &mut [u8]) -> Result<usize, u8>
+    ensures { IfOk result (λ n. n ≤ length room.old) }
 {
     match read_full(from, room) {
-        Err(error) => unread(fail(what, error)),
+        Err(error) => Err(fail(what, error)),
         Ok(n) => {
             if n < room.len() {
                 let mut more = [0u8; 1];
                 match from.read(&mut more) {
                     Err(error) => {
-                        return unread(fail(what, error));
+                        return Err(fail(what, error));
                     }
                     Ok(got) => {
                         if 0 < got {
-                            return unread(complain(what, b": it grew while it was read\n"));
+                            return Err(complain(what, b": it grew while it was read\n"));
                         }
                     }
                 }
             }
-            Input {
-                name: 0,
-                length: n,
-                status: 0,
-            }
+            Ok(n)
         }
     }
 }
 
-// Standard input.
-pub fn read_standard(rt: &impl std::io::Input, room: &mut [u8]) -> Input
-    ensures { Within result.name result.length 0 (length room.old) }
+// Standard input: how many bytes it has.
+pub fn read_standard(rt: &impl std::io::Input, room: &mut [u8]) -> Result<usize, u8>
+    ensures { IfOk result (λ n. n ≤ length room.old) }
 {
     read_whole(&mut rt.reader(), b"standard input", room)
 }
 
-// The file of a name, which is argument i.
-fn read_file(rt: &(impl Files + Env), i: usize, name: &[u8], room: &mut [u8]) -> Input
-    ensures { Within result.name result.length 0 (length room.old) }
+// The file of a name, which is argument i: how many bytes it has.
+fn read_file(rt: &(impl Files + Env), i: usize, name: &[u8], room: &mut [u8]) -> Result<usize, u8>
+    ensures { IfOk result (λ n. n ≤ length room.old) }
 {
     if !named_report::is_one_line(name) {
-        return unread(refuse_name(name));
+        return Err(refuse_name(name));
     }
     match paths::open_argument(rt, i, name) {
-        Err(error) => unread(fail(name, error)),
+        Err(error) => Err(fail(name, error)),
         Ok(mut file) => read_whole(&mut file, name, room),
     }
 }
 
 // The file that argument i names, and its name, into lent rooms.
-pub fn read_argument(rt: &(impl Files + Env), i: usize, path: &mut [u8], room: &mut [u8]) -> Input
-    ensures { Within result.name result.length (length path.old) (length room.old) }
+pub fn read_argument(
+    rt: &(impl Files + Env),
+    i: usize,
+    path: &mut [u8],
+    room: &mut [u8],
+) -> Result<Input, u8>
+    ensures { IfOk result (λ input. Within input.name input.length (length path.old) (length room.old)) }
 {
     match rt.arg(i, path) {
-        Err(error) => unread(fail(b"an argument", reasons::of_argument(error))),
-        Ok(n) => {
-            if n == 0 {
-                return unread(complain(b"an argument", b": an empty name\n"));
+        Err(error) => Err(fail(b"an argument", reasons::of_argument(error))),
+        Ok(name) => {
+            if name == 0 {
+                return Err(complain(b"an argument", b": an empty name\n"));
             }
-            let input = read_file(rt, i, &path[..n], room);
-            Input {
-                name: n,
-                length: input.length,
-                status: input.status,
-            }
+            let length = read_file(rt, i, &path[..name], room)?;
+            Ok(Input { name, length })
         }
     }
 }
@@ -232,14 +217,13 @@ fn check_argument(
     path: &mut [u8],
     room: &mut [u8],
 ) -> u8 {
-    let input = read_argument(rt, i, path, room);
-    let k = input.name;
-    let n = input.length;
-    if 0 < input.status {
-        return input.status;
+    match read_argument(rt, i, path, room) {
+        Err(status) => status,
+        Ok(input) => {
+            let name = &path[..input.name];
+            check_bytes(rt, &room[..input.length], name, name)
+        }
     }
-    let name = &path[..k];
-    check_bytes(rt, &room[..n], name, name)
 }
 
 // Checks the files that the arguments from i on name, up to a write that fails: the worst that they come to.
@@ -259,12 +243,10 @@ fn check_arguments(rt: &(impl Files + Env + Print), first: usize, count: usize) 
 // Checks standard input.
 fn check_standard(rt: &(impl Env + std::io::Input + Print)) -> u8 {
     let mut room = [0u8; ROOM];
-    let input = read_standard(rt, &mut room);
-    let n = input.length;
-    if 0 < input.status {
-        return input.status;
+    match read_standard(rt, &mut room) {
+        Err(status) => status,
+        Ok(n) => check_bytes(rt, &room[..n], b"standard input", b""),
     }
-    check_bytes(rt, &room[..n], b"standard input", b"")
 }
 
 // Is the exit status asked for? An empty first argument does so: it names no file.

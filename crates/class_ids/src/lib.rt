@@ -91,29 +91,29 @@ fn class_of(w: ClassWords) -> Class
 fn places_of(start: usize, end: usize, place: usize, w: ClassWords) -> Result<Class, Refusal>
     ensures { class_outcome result ≡ places_of start end place w }
 {
-    if frame::is_allowed_or_absent(start, end, true, w.directory as usize) {
-        if frame::is_allowed_or_absent(start, end, false, w.data as usize) {
-            if frame::is_allowed_or_absent(start, end, false, w.values as usize) {
-                return Ok(class_of(w));
-            }
-            return Err(refusal::wrong_offset(place));
-        }
+    if !frame::is_allowed_or_absent(start, end, true, w.directory as usize) {
         return Err(refusal::wrong_offset(place));
     }
-    Err(refusal::wrong_offset(place))
+    if !frame::is_allowed_or_absent(start, end, false, w.data as usize) {
+        return Err(refusal::wrong_offset(place));
+    }
+    if !frame::is_allowed_or_absent(start, end, false, w.values as usize) {
+        return Err(refusal::wrong_offset(place));
+    }
+    Ok(class_of(w))
 }
 
 // The rules of the words before those: interfaces, source file.
 fn middle_of(frame: Frame, end: usize, place: usize, w: ClassWords) -> Result<Class, Refusal>
     ensures { class_outcome result ≡ middle_of frame end place w }
 {
-    if frame::is_allowed_or_absent(frame.start, end, true, w.interfaces as usize) {
-        if is_index_or_none(w.source, frame.strings) {
-            return places_of(frame.start, end, place, w);
-        }
+    if !frame::is_allowed_or_absent(frame.start, end, true, w.interfaces as usize) {
+        return Err(refusal::wrong_offset(place));
+    }
+    if !is_index_or_none(w.source, frame.strings) {
         return Err(refusal::wrong_index(place));
     }
-    Err(refusal::wrong_offset(place))
+    places_of(frame.start, end, place, w)
 }
 
 // The rules of the words in stored order: class, superclass, then the others.
@@ -123,10 +123,10 @@ fn first_of(frame: Frame, end: usize, place: usize, w: ClassWords) -> Result<Cla
     if frame.types <= w.class {
         return Err(refusal::wrong_index(place));
     }
-    if is_index_or_none(w.superclass, frame.types) {
-        return middle_of(frame, end, place, w);
+    if !is_index_or_none(w.superclass, frame.types) {
+        return Err(refusal::wrong_index(place));
     }
-    Err(refusal::wrong_index(place))
+    middle_of(frame, end, place, w)
 }
 
 // Class n of the table that begins at an offset.

@@ -61,7 +61,7 @@ module _ (units floor : ℕ) (t : Try) where
   unfolding try_allowed
   try_room h = rw (le-leb floor t.start h)
 
--- ---- the loop of `link_found` at its head: the search for a start is the search from here
+-- ---- the inner loop of `links_at` at its head: the search for a start is the search from here
 pub record Starting (s : List ℕ) (j : HandlerJudge) (want first handlers p number : ℕ) : Type 0 where
   same : link_from s j want handlers first 0 ≡ link_from s j want (handlers - number) p number
 
@@ -107,7 +107,7 @@ module _ {s : List ℕ} {j : HandlerJudge} {want first handlers p number : ℕ} 
           let offset = ap (λ (x : Brief). x.offset) a.1.1 in
           sym (more ∙ bind_answer _ (sym a.1.0) ∙ sym (picks _ (eq-eqb a.0.offset want (offset ∙ d)) refl))
 
--- ---- the loop of `links_at` at its head
+-- ---- the outer loop of `links_at` at its head
 pub record Linking (o : Endian) (s : List ℕ) (j : HandlerJudge) (first handlers from count k place i keep : ℕ) : Type 0 where
   choosing : Choosing (walk_at o s j first handlers) count from 0 k place i keep
   pub room : place + 8 * (count - i) ≤ length s
@@ -135,11 +135,35 @@ module _ {o : Endian} {s : List ℕ} {j : HandlerJudge} {first handlers from cou
   unfolding kept_link
   linking_done l = sym (bind_answer item_alone (sym (choosing_done h.choosing l)))
 
+-- the inner loop within a turn of the outer one
+pub record Seeking (o : Endian) (s : List ℕ) (j : HandlerJudge) (first handlers from count k place i keep want p number : ℕ) : Type 0 where
+  pub linking : Linking o s j first handlers from count k place i keep
+  pub turn : i < count
+  pub is : want ≡ u16_at o s (place + 6)
+  pub starting : Starting s j want first handlers p number
+
+pub seeking_first : {o : Endian} {s : List ℕ} {j : HandlerJudge} {first handlers from count k place i keep want : ℕ}
+    → Linking o s j first handlers from count k place i keep → i < count → want ≡ u16_at o s (place + 6) → Seeking o s j first handlers from count k place i keep want first 0
+seeking_first {s = s} {j = j} {first = first} {handlers = handlers} {want = want} h l is = record { linking = h; turn = l; is = is; starting = starting_first s j want first handlers }
+
+module _ {o : Endian} {s : List ℕ} {j : HandlerJudge} {first handlers from count k place i keep want p number : ℕ} (h : Seeking o s j first handlers from count k place i keep want p number) where
+  pub seeking_none : {r : Refusal} → handlers ≤ number → r ≡ wrong_code j.item → refused r ≡ kept_link o s j first handlers from count k
+  seeking_none q made = linking_stop h.linking h.turn h.is (starting_none h.starting q made)
+
+  module _ (q : number < handlers) where
+    pub seeking_stop : {r : Refusal} → refused r ≡ H.kept_handler s j 0 p → refused r ≡ kept_link o s j first handlers from count k
+    seeking_stop e = linking_stop h.linking h.turn h.is (starting_stop h.starting q e)
+
+    module _ {b : Brief} {n : ℕ} (e : answer (record { item = b; next = n }) ≡ H.kept_handler s j 0 p) where
+      pub seeking_next : (b.offset ≡ want → ⊥) → Seeking o s j first handlers from count k place i keep want n (number + 1)
+      seeking_next d = record { linking = h.linking; turn = h.turn; is = h.is; starting = starting_next h.starting q e d }
+
+      pub seeking_found : {new : ℕ} → b.offset ≡ want → new ≡ cond (eqb i k) number keep → Linking o s j first handlers from count k (place + 8) (i + 1) new
+      seeking_found d w = linking_next h.linking h.turn h.is (starting_found h.starting q e d) w
+
 pub ruleset try_laws = (trying_first, trying_room, trying_next, trying_stop, trying_done, try_low, try_room, tests, rules)
 
-pub ruleset start_laws = (starting_first, starting_none, starting_stop, starting_next, starting_found, handed_on, rules)
-
-pub ruleset link_laws = (linking_first, linking_room, linking_next, linking_stop, linking_done, handed_on, rules)
+pub ruleset link_laws = (linking_first, linking_room, linking_done, seeking_first, seeking_none, seeking_stop, seeking_next, seeking_found, handed_on, rules)
 
 -- ---- a try from the values that were read
 pub try_by : (o : Endian) (s : List ℕ) (p : ℕ) {a b c : ℕ} → a ≡ u32_at o s p → b ≡ u16_at o s (p + 4) → c ≡ u16_at o s (p + 6) → record { start = a; count = b; handler = c } ≡ try_at o s p

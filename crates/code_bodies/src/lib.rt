@@ -90,27 +90,6 @@ fn tries_found(
     Ok(kept)
 }
 
-// The number of the handler that starts `want` from the list's first byte, of the `handlers` handlers from `first` on.
-fn link_found(
-    s: &[u8],
-    j: HandlerJudge,
-    first: usize,
-    handlers: u32,
-    want: usize,
-) -> Result<u32, Refusal>
-    ensures { link_outcome result ≡ link_from s.now j want handlers first 0 }
-{
-    let mut p = first;
-    for number in 0..handlers {
-        let Read { value: brief, next } = handlers::handler_found(s, j, p, 0)?;
-        if brief.offset == want {
-            return Ok(number);
-        }
-        p = next;
-    }
-    Err(refusal::wrong_code(j.item))
-}
-
 // The handler's number of each try, of which that of try k is kept. Each try's handler offset is looked for among the starts of the
 // `handlers` handlers from `first` on, which are gone over again for each try.
 fn links_at(
@@ -128,11 +107,19 @@ fn links_at(
 {
     let mut place = from;
     let mut kept: u32 = 0;
-    for i in 0..count as u32 {
+    'tries: for i in 0..count as u32 {
         let want = word::u16_at(s, place + 6, order) as usize;
-        let number = link_found(s, j, first, handlers, want)?;
-        kept = refusal::newer(i == k, number, kept);
-        place += 8;
+        let mut p = first;
+        for number in 0..handlers {
+            let Read { value: brief, next } = handlers::handler_found(s, j, p, 0)?;
+            if brief.offset == want {
+                kept = refusal::newer(i == k, number, kept);
+                place += 8;
+                continue 'tries;
+            }
+            p = next;
+        }
+        return Err(refusal::wrong_code(j.item));
     }
     Ok(kept)
 }

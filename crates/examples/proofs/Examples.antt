@@ -2,7 +2,7 @@
 -- Assumes nothing.
 use Prim.Native.Nat.{ℕ}
 use mathlib.Core.Path.{◌≡◌, refl}
-use mathlib.Core.Bool.{true, false}
+use mathlib.Core.Bool.{false}
 use mathlib.Core.List.{List, [], ◌∷◌}
 use lib.IntN.{ℤ, pos, negsuc}
 use lib.Ieee.{of_bits, binary32}
@@ -20,7 +20,6 @@ use Rattle.encoded_value.specs.Readings.{plain_at, kind_with, value_with, value_
 use Rattle.decoded_value.specs.Shown.{Shown, is, integer, natural, floating}
 use Rattle.decoded_value.specs.Readings.{decoded_at}
 use Rattle.class_members.specs.declared.Member.{Member}
-use Rattle.class_members.specs.declared.MemberJudge.{MemberJudge}
 use Rattle.class_members.specs.Members as M
 
 -- the indices of members

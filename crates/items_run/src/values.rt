@@ -28,24 +28,9 @@ fn double(value: f64) -> u64 {
 // What the float beside the bits is: not below 2 (1), below 2 (2), or none (3); 0 for other values.
 fn float_of(v: Value) -> u64 {
     match v {
-        Value::Byte(_) => 0,
-        Value::Short(_) => 0,
-        Value::Char(_) => 0,
-        Value::Int(_) => 0,
-        Value::Long(_) => 0,
-        Value::Float { bits: _, value } => single(value),
-        Value::Double { bits: _, value } => double(value),
-        Value::Index { kind: _, number: _ } => 0,
-        Value::Array {
-            offset: _,
-            length: _,
-        } => 0,
-        Value::Annotation {
-            offset: _,
-            length: _,
-        } => 0,
-        Value::Null => 0,
-        Value::Boolean(_) => 0,
+        Value::Float { value, .. } => single(value),
+        Value::Double { value, .. } => double(value),
+        _ => 0,
     }
 }
 

@@ -157,13 +157,12 @@ fn scan(s: &[u8], j: MapJudge, from: usize, count: u32) -> Result<Table, Refusal
         if 21 <= number {
             return Err(refusal::wrong_map(j.at));
         }
-        if is_next_allowed(j, e, floor, seen[number]) {
-            seen[number] = 1;
-            handles = handles_of(e, handles);
-            floor = e.offset as u64 + 1;
-        } else {
+        if !is_next_allowed(j, e, floor, seen[number]) {
             return Err(refusal::wrong_map(j.at));
         }
+        seen[number] = 1;
+        handles = handles_of(e, handles);
+        floor = e.offset as u64 + 1;
         place += 12;
     }
     Ok(handles)

@@ -38,11 +38,8 @@ fn step_row(f: &[u8], v: [u64; 20], k: u8) -> [u64; 20] {
 // Along a path of such steps.
 pub(crate) fn inner_row(f: &[u8], start: [u64; 20], path: &[u8]) -> [u64; 20] {
     let mut at = start;
-    let mut i: usize = 0;
-    while i < path.len() {
-        let next = step_row(f, at, path[i]);
-        at = next;
-        i += 1;
+    for k in path {
+        at = step_row(f, at, *k);
     }
     at
 }

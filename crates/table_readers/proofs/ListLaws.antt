@@ -5,12 +5,9 @@ use mathlib.Core.Path.{◌≡◌, ap, ◌∙◌}
 use mathlib.Core.List.{List}
 use borrow.Author.Rules.{rules}
 use Rattle.refusal.specs.Outcome.{Outcome}
-use Rattle.refusal.proofs.Laws.{tests}
+use Rattle.refusal.proofs.Laws.{tests, calls}
 use Rattle.header.specs.declared.Header.{Header}
 use Rattle.header.specs.Header.{up_to_end}
-use Rattle.header.proofs.Laws.{laws as header-laws}
-use Rattle.ids.proofs.Laws.{laws as record_laws}
-use Rattle.class_ids.proofs.Laws.{laws as class-laws}
 use Rattle.type_list.specs.declared.TypeListJudge.{TypeListJudge}
 use Rattle.type_list.specs.TypeList.{number_at}
 
@@ -19,6 +16,6 @@ module _ (f : List ℕ) (h : Header) (j : TypeListJudge) {s : List ℕ} (e : s �
   pub number_in : (k : ℕ) {y : Outcome ℕ} → y ≡ number_at s j k → y ≡ number_at (up_to_end f h) j k
   number_in k q = q ∙ ap (λ (x : List ℕ). number_at x j k) e
 
-pub ruleset list_laws = (number_in, tests, rules)
+pub ruleset list_laws = (number_in, calls, tests, rules)
 
-pub ruleset laws = (header-laws, record_laws, class-laws, rules)
+pub ruleset laws = (calls, rules)

@@ -1,7 +1,7 @@
 -- What the proofs of the readers of strings cite.
 -- Assumes nothing.
 use Prim.Native.Nat.{ℕ, zero, suc, ◌+◌, ◌≤◌}
-use mathlib.Core.Path.{◌≡◌, refl, ap, sym, ◌∙◌}
+use mathlib.Core.Path.{◌≡◌, refl, sym, ◌∙◌}
 use mathlib.Core.Bool.{Bool, true, false}
 use mathlib.Core.List.{List, [], ◌∷◌}
 use lib.ListN.{length, take, length-take}
@@ -13,18 +13,14 @@ use native.Mathlib.Nat.{min-le_left, min-le_right}
 use Rattle.refusal.specs.Refusals.{not_there}
 use Rattle.refusal.specs.declared.Refusal.{Refusal}
 use Rattle.refusal.specs.Outcome.{Outcome, answer, refused, ◌>>=◌, given}
-use Rattle.refusal.proofs.Laws.{tests}
+use Rattle.refusal.proofs.Laws.{tests, calls}
 use Rattle.refusal.proofs.Exact.{never, answers_equal}
 use Rattle.refusal.proofs.Rows.{bind_assoc}
 use Rattle.word.specs.Bytes.{stretch, part}
 use Rattle.word.proofs.Laws.{part_whole}
 use Rattle.header.specs.declared.Header.{Header}
 use Rattle.header.specs.Header.{header_at, up_to_end}
-use Rattle.header.proofs.Laws.{laws as header-laws}
 use Rattle.text.specs.Text.{Text, Extent, extent}
-use Rattle.text.specs.Answers.{text_outcome}
-use Rattle.text.specs.declared.TextAnswer.{TextAnswer}
-use Rattle.text.specs.declared.TextAnswer.TheVariants as T
 use Rattle.string_ids.specs.Strings.{string_of, string_extent}
 use Rattle.table_readers.specs.Strings.{string_number, bytes_of, string_extent_of, string_in}
 use Rattle.table_readers.specs.Rules.{StringNumber}
@@ -57,18 +53,18 @@ lies_in f n {t} r =
     let less = min-le_right r.header.end (length f) in
     part_whole f t.start (length t.bytes) (omega arith) ∙ sym (stretch_take f r.header.end t.start (length t.bytes) (omega arith)) ∙ stands.bytes_there
 
-module _ (f : List ℕ) (n : ℕ) {x : TextAnswer} (e : text_outcome x ≡ string_extent_of f n) where
-  pub bytes_none : {r : Refusal} → x ≡ T.Refused r → [] ≡ bytes_of (string_number f n)
+module _ (f : List ℕ) (n : ℕ) where
+  pub bytes_none : {r : Refusal} → refused r ≡ string_extent_of f n → [] ≡ bytes_of (string_number f n)
   unfolding string_extent_of extent bytes_of ◌>>=◌
-  bytes_none {r} t = go (string_number f n) (sym (ap text_outcome t) ∙ e)
+  bytes_none {r} e = go (string_number f n) e
     where
       go : (o : Outcome Text) → refused r ≡ (o >>= extent) → [] ≡ bytes_of o
       go (answer a) h = absurd (never h)
       go (refused q) h = refl
 
-  pub bytes_some : {p m u : ℕ} {y : List ℕ} → x ≡ T.Got p m u → y ≡ part f p m → y ≡ bytes_of (string_number f n)
+  pub bytes_some : {p m u : ℕ} {y : List ℕ} → answer (record { start = p; length = m; units = u }) ≡ string_extent_of f n → y ≡ part f p m → y ≡ bytes_of (string_number f n)
   unfolding string_extent_of extent bytes_of ◌>>=◌
-  bytes_some {p} {m} {u} {y} t q = go (string_number f n) refl (sym (ap text_outcome t) ∙ e)
+  bytes_some {p} {m} {u} {y} e q = go (string_number f n) refl e
     where
       go : (o : Outcome Text) → string_number f n ≡ o → answer (record { start = p; length = m; units = u }) ≡ (o >>= extent) → y ≡ bytes_of o
       go (answer a) k h =
@@ -76,4 +72,4 @@ module _ (f : List ℕ) (n : ℕ) {x : TextAnswer} (e : text_outcome x ≡ strin
           q ∙ (λ i. part f (same i).start (same i).length) ∙ lies_in f n ((string_number_exact f n).sound a k)
       go (refused r) k h = absurd (never (sym h))
 
-pub ruleset laws = (extent_by, bytes_none, bytes_some, header-laws, tests, rules)
+pub ruleset laws = (extent_by, bytes_none, bytes_some, calls, tests, rules)

@@ -5,12 +5,10 @@ use mathlib.Core.Path.{◌≡◌, ap, ◌∙◌}
 use mathlib.Core.List.{List}
 use borrow.Author.Rules.{rules}
 use Rattle.refusal.specs.Outcome.{Outcome}
-use Rattle.refusal.proofs.Laws.{tests}
+use Rattle.refusal.proofs.Laws.{tests, calls}
 use Rattle.frame.specs.declared.Frame.{Frame}
 use Rattle.header.specs.declared.Header.{Header}
 use Rattle.header.specs.Header.{frame_of}
-use Rattle.header.proofs.Laws.{laws as header-laws}
-use Rattle.map_list.proofs.Laws.{laws as map-laws}
 use Rattle.ids.specs.declared.Proto.{Proto}
 use Rattle.ids.specs.declared.MemberId.{MemberId}
 use Rattle.ids.specs.declared.Handle.{Handle}
@@ -34,6 +32,6 @@ module _ (f : List ℕ) (h : Header) (handles offset n : ℕ) {r : Frame} (e : r
   pub class_framed : (end : ℕ) {y : Outcome Class} → y ≡ class_at f r end offset n → y ≡ class_at f (frame_of h handles) end offset n
   class_framed end q = q ∙ ap (λ (x : Frame). class_at f x end offset n) e
 
-pub ruleset framed = (type_framed, proto_framed, member_framed, handle_framed, class_framed, tests, rules)
+pub ruleset framed = (type_framed, proto_framed, member_framed, handle_framed, class_framed, calls, tests, rules)
 
-pub ruleset laws = (header-laws, map-laws, rules)
+pub ruleset laws = (calls, rules)

@@ -7,6 +7,7 @@ ghost use Rattle.table_readers.specs.Answers.{count_outcome, entry_outcome, open
 
 use super::Opened;
 use header::Header;
+use map_list::MapEntry;
 use refusal::Refusal;
 
 pub fn header(f: &[u8]) -> Result<Header, Refusal>
@@ -20,8 +21,8 @@ pub fn signature(f: &[u8]) -> &[u8]
     ensures { result.now ≡ signature_of f.now }
 {
     match header::header_of(f) {
-        Err(_) => &f[0..0],
         Ok(_) => word::bytes_at(f, 12, 20),
+        Err(_) => &f[0..0],
     }
 }
 
@@ -45,8 +46,7 @@ fn map_entry_in(f: &[u8], header: Header, k: u32) -> Result<MapEntry, Refusal>
     ensures { entry_outcome result ≡ map_entry_in f.now k header }
 {
     let m = map_list::map_of(f, header)?;
-    let count = m.count;
-    if k < count {
+    if k < m.count {
         return Ok(map_list::entry_number(f, header, k));
     }
     Err(refusal::not_there())
@@ -57,18 +57,16 @@ pub fn handle_count(f: &[u8]) -> Result<u32, Refusal>
 {
     let header = header::header_of(f)?;
     let m = map_list::map_of(f, header)?;
-    let handles = m.handles;
-    Ok(handles.count)
+    Ok(m.handles.count)
 }
 
 fn mapped(f: &[u8], header: Header) -> Result<Opened, Refusal>
     ensures { opened_outcome result ≡ mapped_at f.now header }
 {
     let m = map_list::map_of(f, header)?;
-    let t = m.handles;
     Ok(Opened {
-        header: header,
-        handles: t.count,
+        header,
+        handles: m.handles.count,
     })
 }
 

@@ -3,8 +3,6 @@
 #![tactic(auto)]
 
 use header::Header;
-use map_list::MapEntry;
-use refusal::Refusal;
 
 mod flags;
 mod head;

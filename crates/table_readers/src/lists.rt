@@ -11,14 +11,12 @@ use type_list::TypeListJudge;
 fn list_type(f: &[u8], header: Header, at: u32, k: u32) -> Result<u32, Refusal>
     ensures { type_outcome result ≡ list_type f.now header at k }
 {
-    let order = header.order;
-    let types = header.types;
     if 0 < at {
         return type_list::type_at(
             header::up_to_end(f, header),
             TypeListJudge {
-                order,
-                types: types.count,
+                order: header.order,
+                types: header.types.count,
                 at: at as usize,
             },
             k,

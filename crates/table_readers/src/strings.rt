@@ -31,14 +31,8 @@ pub fn string_bytes(f: &[u8], n: u32) -> &[u8]
     ensures { result.now ≡ bytes_of (string_number f.now n) }
 {
     match string(f, n) {
+        Ok(TextPlace { start, length, .. }) => word::bytes_at(f, start, length),
         Err(_) => &f[0..0],
-        Ok(
-            TextPlace {
-                start,
-                length,
-                units: _,
-            },
-        ) => word::bytes_at(f, start, length),
     }
 }
 

@@ -4,7 +4,9 @@ ghost use Rattle.ids.specs.Answers.{index_outcome, proto_outcome, member_id_outc
 ghost use Rattle.class_ids.specs.Answers.{class_outcome};
 ghost use Rattle.table_readers.specs.Tables.{type_in, type_name, proto_in, proto_number, field_in, field_number, method_in, method_number, handle_in, handle_under, handle_number, class_in, class_number};
 
+use class_ids::Class;
 use header::Header;
+use ids::{Handle, MemberId, Proto};
 use map_list::MapList;
 use refusal::Refusal;
 

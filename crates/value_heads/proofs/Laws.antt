@@ -17,7 +17,7 @@ use Rattle.refusal.specs.Outcome.{answer, refused, given}
 use Rattle.refusal.proofs.Laws.{tests, calls, refused_by}
 use Rattle.word.specs.Bytes.{stretch}
 use Rattle.value_heads.specs.declared.Walk.{Walk}
-use Rattle.std.specs.Prelude.{Ok, Err}
+use Rattle.std.specs.Prelude.{Result, Ok, Err}
 use Rattle.refusal.specs.declared.Read.{Read}
 use Rattle.value_heads.specs.Kinds.{bytes_of, is_index, count_of, in_range}
 use Rattle.value_heads.specs.Numbers.{little}
@@ -69,9 +69,12 @@ pub size_few : {h n : ℕ} → n ≡ bytes_of h → Fits w8 h → n ≤ 8
 size_few {h} e f = let z = size_small h (omega arith) in omega arith
 
 -- ---- what its number may be
+same_value : {v n u m : ℕ} → ◌≡◌ {A = Result (Read ℕ) Refusal} (Ok (record { value = v; next = n })) (Ok (record { value = u; next = m })) → v ≡ u
+same_value {v} {n} {u} {m} e = let same : record { value = v; next = n } ≡ record { value = u; next = m } = cc in ap (λ (r : Read ℕ). r.value) same
+
 module _ {h : ℕ} where
   pub small_got : {v n k : ℕ} → k ≡ bytes_of h → v < 2 ^ (8 * k) → Small h (Ok (record { value = v; next = n }))
-  small_got {v} {n} {k} e l = record { small = λ {v = u} {n = m} t. let same : record { value = v; next = n } ≡ record { value = u; next = m } = cc in let z : v ≡ u = ap (λ (r : Read ℕ). r.value) same in rw (← z, ← e) l }
+  small_got e l = record { small = λ t. rw (← same_value t, ← e) l }
 
   pub small_refused : {r : Refusal} → Small h (Err r)
   small_refused = record { small = λ t. absurd (let z : ◌≡◌ {A = ℕ} 0 1 = cc in omega arith) }

@@ -2,18 +2,18 @@ use Rattle.annotation_directories.proofs.Laws.{head_laws as laws}
 use Rattle.annotation_directories.specs.Directories.{counts_at}
 use Rattle.annotation_directories.proofs.counts_at.Goals as goal
 
-pub returns-in-Refused : goal.returns-in-Refused
+pub returns-in_err-fields : goal.returns-in_err-fields
 unfolding counts_at
-returns-in-Refused c = search laws depth 9
+returns-in_err-fields c = search laws depth 9
 
-pub returns-in-Refused-word_at : goal.returns-in-Refused-word_at
+pub returns-in_err-methods : goal.returns-in_err-methods
 unfolding counts_at
-returns-in-Refused-word_at c = search laws depth 9
+returns-in_err-methods c = search (laws, c.in_ok-fields.ensures) depth 9
 
-pub returns-in-Refused-word_at-2 : goal.returns-in-Refused-word_at-2
+pub returns-in_err-parameters : goal.returns-in_err-parameters
 unfolding counts_at
-returns-in-Refused-word_at-2 c = search laws depth 9
+returns-in_err-parameters c = search (laws, c.in_ok-fields.ensures, c.in_ok-methods.ensures) depth 9
 
-pub returns-in-Got-word_at-2 : goal.returns-in-Got-word_at-2
+pub returns : goal.returns
 unfolding counts_at
-returns-in-Got-word_at-2 c = search laws depth 9
+returns c = search (laws, c.in_ok-fields.ensures, c.in_ok-methods.ensures, c.in_ok-parameters.ensures) depth 9

@@ -3,16 +3,16 @@ use Rattle.annotation_directories.specs.Directories.{head_at}
 use Rattle.annotation_directories.proofs.head_at.Goals as goal
 
 pub counts_at-requires : goal.counts_at-requires
-counts_at-requires c = search laws depth 7
+counts_at-requires c = search (laws, c.in_ok-set.ensures) depth 7
+
+pub returns-in_err-set : goal.returns-in_err-set
+unfolding head_at
+returns-in_err-set c = search laws depth 7
 
 pub returns-then-is_allowed_or_absent : goal.returns-then-is_allowed_or_absent
 unfolding head_at
-returns-then-is_allowed_or_absent c = search laws depth 7
+returns-then-is_allowed_or_absent c = search (laws, c.in_ok-set.ensures) depth 7
 
-pub returns-in-Refused : goal.returns-in-Refused
+pub returns : goal.returns
 unfolding head_at
-returns-in-Refused c = search laws depth 7
-
-pub returns-else-is_allowed_or_absent : goal.returns-else-is_allowed_or_absent
-unfolding head_at
-returns-else-is_allowed_or_absent c = search laws depth 7
+returns c = search (laws, c.in_ok-set.ensures) depth 7

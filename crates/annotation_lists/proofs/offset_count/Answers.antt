@@ -1,17 +1,17 @@
 use Rattle.annotation_lists.proofs.Laws.{count_laws as laws}
 use Rattle.annotation_lists.proofs.offset_count.Goals as goal
 
+pub returns-in_err-count : goal.returns-in_err-count
+returns-in_err-count c = search laws
+
 pub overflow_add-item : goal.overflow_add-item
-overflow_add-item c = search laws
+overflow_add-item c = search (laws, c.in_ok-count.ensures)
 
-pub returns-in-Refused-offsets_pass : goal.returns-in-Refused-offsets_pass
-returns-in-Refused-offsets_pass c = search laws
+pub returns-in_err-offsets_pass : goal.returns-in_err-offsets_pass
+returns-in_err-offsets_pass c = search (laws, c.in_ok-count.ensures)
 
-pub returns-in-Accepted : goal.returns-in-Accepted
-returns-in-Accepted c = search laws
+pub returns-then-has_room : goal.returns-then-has_room
+returns-then-has_room c = search (laws, c.in_ok-count.ensures)
 
-pub returns-in-Refused : goal.returns-in-Refused
-returns-in-Refused c = search laws
-
-pub returns-else-has_room : goal.returns-else-has_room
-returns-else-has_room c = search laws
+pub returns : goal.returns
+returns c = search (laws, c.in_ok-count.ensures)

@@ -6,10 +6,10 @@ pub returns-then-frame-w : goal.returns-then-frame-w
 unfolding first_of
 returns-then-frame-w c = search laws
 
-pub returns-then-is_index_or_none : goal.returns-then-is_index_or_none
-unfolding first_of
-returns-then-is_index_or_none c = search laws
-
 pub returns : goal.returns
 unfolding first_of
 returns c = search laws
+
+pub returns-then-not-is_index_or_none : goal.returns-then-not-is_index_or_none
+unfolding first_of
+returns-then-not-is_index_or_none c = search laws

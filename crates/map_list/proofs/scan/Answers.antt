@@ -4,9 +4,6 @@ use Rattle.map_list.proofs.scan.Goals as goal
 pub returns-then-number-ge21 : goal.returns-then-number-ge21
 returns-then-number-ge21 c = search laws
 
-pub returns-else-is_next_allowed : goal.returns-else-is_next_allowed
-returns-else-is_next_allowed c = search laws
-
 pub returns : goal.returns
 returns c = search laws
 
@@ -15,3 +12,6 @@ loop-init c = search laws
 
 pub loop-preserved : goal.loop-preserved
 loop-preserved c = search laws
+
+pub returns-then-not-is_next_allowed : goal.returns-then-not-is_next_allowed
+returns-then-not-is_next_allowed c = search laws

@@ -1,19 +1,21 @@
+use Rattle.table_readers.specs.Flags.{content_of}
+use Rattle.table_readers.specs.Flags.{class_content}
 use Rattle.table_readers.proofs.FlagLaws.{laws}
 use Rattle.table_readers.specs.Flags.{class_flags}
 use Rattle.table_readers.proofs.flags.class_flags.Goals as goal
 
-pub returns-in-Refused-clause-answer : goal.returns-in-Refused-clause-answer
+pub returns-in_err-c-clause-answer : goal.returns-in_err-c-clause-answer
 unfolding class_flags
-returns-in-Refused-clause-answer c = search laws
+returns-in_err-c-clause-answer c = search laws
 
-pub returns-in-Refused-clause-content : goal.returns-in-Refused-clause-content
+pub returns-in_err-c-clause-content : goal.returns-in_err-c-clause-content
 unfolding class_flags
-returns-in-Refused-clause-content c = search laws
+returns-in_err-c-clause-content c = search laws
 
-pub returns-in-Got-clause-answer : goal.returns-in-Got-clause-answer
+pub returns-clause-answer : goal.returns-clause-answer
 unfolding class_flags
-returns-in-Got-clause-answer c = search laws
+returns-clause-answer c = search laws
 
-pub returns-in-Got-clause-content : goal.returns-in-Got-clause-content
-unfolding class_flags
-returns-in-Got-clause-content c = search laws
+pub returns-clause-content : goal.returns-clause-content
+unfolding class_flags class_content content_of
+returns-clause-content c = search laws

@@ -2,14 +2,14 @@ use Rattle.table_readers.proofs.HeadLaws.{laws}
 use Rattle.table_readers.specs.Head.{map_count}
 use Rattle.table_readers.proofs.head.map_count.Goals as goal
 
-pub returns-in-Refused : goal.returns-in-Refused
+pub returns-in_err-header : goal.returns-in_err-header
 unfolding map_count
-returns-in-Refused c = search laws depth 7
+returns-in_err-header c = search laws depth 7
 
-pub returns-in-Refused-map_of : goal.returns-in-Refused-map_of
+pub returns-in_err-m : goal.returns-in_err-m
 unfolding map_count
-returns-in-Refused-map_of c = search laws depth 7
+returns-in_err-m c = search laws depth 7
 
-pub returns-in-Got-map_of : goal.returns-in-Got-map_of
+pub returns : goal.returns
 unfolding map_count
-returns-in-Got-map_of c = search laws depth 7
+returns c = search laws depth 7

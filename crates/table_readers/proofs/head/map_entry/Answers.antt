@@ -2,10 +2,10 @@ use Rattle.table_readers.proofs.HeadLaws.{laws}
 use Rattle.table_readers.specs.Head.{map_entry}
 use Rattle.table_readers.proofs.head.map_entry.Goals as goal
 
-pub returns-in-Refused : goal.returns-in-Refused
+pub returns-in_err-header : goal.returns-in_err-header
 unfolding map_entry
-returns-in-Refused c = search laws
+returns-in_err-header c = search laws
 
-pub returns-in-Got : goal.returns-in-Got
+pub returns : goal.returns
 unfolding map_entry
-returns-in-Got c = search laws
+returns c = search laws

@@ -2,14 +2,14 @@ use Rattle.table_readers.proofs.HeadLaws.{laws}
 use Rattle.table_readers.specs.Head.{map_entry_in}
 use Rattle.table_readers.proofs.head.map_entry_in.Goals as goal
 
-pub returns-then-k-count : goal.returns-then-k-count
+pub returns-in_err-m : goal.returns-in_err-m
 unfolding map_entry_in
-returns-then-k-count c = search laws
+returns-in_err-m c = search laws
 
-pub returns-in-Refused : goal.returns-in-Refused
+pub returns-then-k-m : goal.returns-then-k-m
 unfolding map_entry_in
-returns-in-Refused c = search laws
+returns-then-k-m c = search laws
 
-pub returns-else-k-count : goal.returns-else-k-count
+pub returns : goal.returns
 unfolding map_entry_in
-returns-else-k-count c = search laws
+returns c = search laws

@@ -2,10 +2,10 @@ use Rattle.table_readers.proofs.HeadLaws.{laws}
 use Rattle.table_readers.specs.Head.{opened_at}
 use Rattle.table_readers.proofs.head.open.Goals as goal
 
-pub returns-in-Refused : goal.returns-in-Refused
+pub returns-in_err-header : goal.returns-in_err-header
 unfolding opened_at
-returns-in-Refused c = search laws
+returns-in_err-header c = search laws
 
-pub returns-in-Got : goal.returns-in-Got
+pub returns : goal.returns
 unfolding opened_at
-returns-in-Got c = search laws
+returns c = search laws

@@ -2,10 +2,10 @@ use Rattle.table_readers.proofs.ListLaws.{laws}
 use Rattle.table_readers.specs.Lists.{interface_count}
 use Rattle.table_readers.proofs.lists.interface_count.Goals as goal
 
-pub returns-in-Refused : goal.returns-in-Refused
+pub returns-in_err-header : goal.returns-in_err-header
 unfolding interface_count
-returns-in-Refused c = search laws
+returns-in_err-header c = search laws
 
-pub returns-in-Got : goal.returns-in-Got
+pub returns : goal.returns
 unfolding interface_count
-returns-in-Got c = search laws
+returns c = search laws

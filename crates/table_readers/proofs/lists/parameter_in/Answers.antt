@@ -2,10 +2,10 @@ use Rattle.table_readers.proofs.ListLaws.{laws}
 use Rattle.table_readers.specs.Lists.{parameter_in}
 use Rattle.table_readers.proofs.lists.parameter_in.Goals as goal
 
-pub returns-in-Refused : goal.returns-in-Refused
+pub returns-in_err-p : goal.returns-in_err-p
 unfolding parameter_in
-returns-in-Refused c = search laws
+returns-in_err-p c = search laws
 
-pub returns-in-Got : goal.returns-in-Got
+pub returns : goal.returns
 unfolding parameter_in
-returns-in-Got c = search laws
+returns c = search laws

@@ -2,10 +2,10 @@ use Rattle.table_readers.proofs.StringLaws.{laws}
 use Rattle.table_readers.specs.Strings.{find_string}
 use Rattle.table_readers.proofs.strings.find_string.Goals as goal
 
-pub returns-in-Refused : goal.returns-in-Refused
+pub returns-in_err-header : goal.returns-in_err-header
 unfolding find_string
-returns-in-Refused c = search laws
+returns-in_err-header c = search laws
 
-pub returns-in-Got : goal.returns-in-Got
+pub returns : goal.returns
 unfolding find_string
-returns-in-Got c = search laws
+returns c = search laws

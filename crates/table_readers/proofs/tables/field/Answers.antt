@@ -2,10 +2,10 @@ use Rattle.table_readers.proofs.TableLaws.{laws}
 use Rattle.table_readers.specs.Tables.{field_number}
 use Rattle.table_readers.proofs.tables.field.Goals as goal
 
-pub returns-in-Refused : goal.returns-in-Refused
+pub returns-in_err-header : goal.returns-in_err-header
 unfolding field_number
-returns-in-Refused c = search laws
+returns-in_err-header c = search laws
 
-pub returns-in-Got : goal.returns-in-Got
+pub returns : goal.returns
 unfolding field_number
-returns-in-Got c = search laws
+returns c = search laws

@@ -2,10 +2,10 @@ use Rattle.table_readers.proofs.TableLaws.{laws}
 use Rattle.table_readers.specs.Tables.{handle_in}
 use Rattle.table_readers.proofs.tables.handle_in.Goals as goal
 
-pub returns-in-Refused : goal.returns-in-Refused
+pub returns-in_err-m : goal.returns-in_err-m
 unfolding handle_in
-returns-in-Refused c = search laws
+returns-in_err-m c = search laws
 
-pub returns-in-Got : goal.returns-in-Got
+pub returns : goal.returns
 unfolding handle_in
-returns-in-Got c = search laws
+returns c = search laws
