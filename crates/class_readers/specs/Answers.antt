@@ -1,6 +1,6 @@
 -- What the answers of the code say: an absent item is none.
 use Rattle.std.specs.Prelude.{ℕ, Result}
-use Rattle.std.proofs.Math.Option.{Option, none}
+use Rattle.std.proofs.Math.Option.{Option}
 use Rattle.refusal.specs.Outcome.{Outcome}
 use Rattle.class_data.specs.declared.Counts.{Counts}
 use Rattle.class_members.specs.declared.Member.{Member}

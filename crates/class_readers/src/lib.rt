@@ -3,10 +3,7 @@
 // A list is 0 for static fields, 1 for instance fields, 2 for direct methods, 3 for virtual methods.
 #![tactic(auto)]
 
-use class_data::Counts;
-use class_members::Member;
 use header::Header;
-use refusal::Refusal;
 
 mod members;
 mod spots;

@@ -4,6 +4,8 @@ ghost use Rattle.class_readers.specs.Members.{counts_under, class_data, member_u
 ghost use Rattle.class_readers.specs.Answers.{maybe_data, maybe_member, maybe_count};
 
 use super::Spot;
+use class_data::Counts;
+use class_members::Member;
 use refusal::{Read, Refusal};
 
 fn counts_under(f: &[u8], spot: Spot) -> Result<Option<Counts>, Refusal>

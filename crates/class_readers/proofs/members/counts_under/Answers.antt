@@ -2,10 +2,10 @@ use Rattle.class_readers.proofs.SpotLaws.{under_laws as laws}
 use Rattle.class_readers.specs.Members.{counts_under}
 use Rattle.class_readers.proofs.members.counts_under.Goals as goal
 
-pub returns-in-Refused : goal.returns-in-Refused
+pub returns-in_err-counts : goal.returns-in_err-counts
 unfolding counts_under
-returns-in-Refused c = search laws
+returns-in_err-counts c = search laws
 
-pub returns-in-Got : goal.returns-in-Got
+pub returns : goal.returns
 unfolding counts_under
-returns-in-Got c = search laws
+returns c = search laws

@@ -1,35 +1,35 @@
 use Rattle.class_readers.proofs.MemberLaws.{laws}
-use Rattle.class_readers.specs.Members.{member_flags, flags_in}
+use Rattle.class_readers.specs.Members.{member_flags, flags_in, member_content, content_of}
 use Rattle.class_readers.proofs.members.member_flags.Goals as goal
 
-pub returns-in-Refused-clause-answer : goal.returns-in-Refused-clause-answer
+pub returns-in_err-m-clause-answer : goal.returns-in_err-m-clause-answer
 unfolding member_flags flags_in
-returns-in-Refused-clause-answer c = search laws depth 7
+returns-in_err-m-clause-answer c = search laws depth 7
 
-pub returns-in-Refused-clause-content : goal.returns-in-Refused-clause-content
+pub returns-in_err-m-clause-content : goal.returns-in_err-m-clause-content
 unfolding member_flags flags_in
-returns-in-Refused-clause-content c = search laws depth 7
+returns-in_err-m-clause-content c = search laws depth 7
 
-pub returns-in-Absent-clause-answer : goal.returns-in-Absent-clause-answer
+pub returns-in_default-clause-answer : goal.returns-in_default-clause-answer
 unfolding member_flags flags_in
-returns-in-Absent-clause-answer c = search laws depth 7
+returns-in_default-clause-answer c = search laws depth 7
 
-pub returns-in-Absent-clause-content : goal.returns-in-Absent-clause-content
+pub returns-in_default-clause-content : goal.returns-in_default-clause-content
 unfolding member_flags flags_in
-returns-in-Absent-clause-content c = search laws depth 7
+returns-in_default-clause-content c = search laws depth 7
 
-pub returns-in-Refused-flags_into-clause-answer : goal.returns-in-Refused-flags_into-clause-answer
+pub returns-in_err-n-clause-answer : goal.returns-in_err-n-clause-answer
 unfolding member_flags flags_in
-returns-in-Refused-flags_into-clause-answer c = search laws depth 7
+returns-in_err-n-clause-answer c = search laws depth 7
 
-pub returns-in-Got-flags_into-clause-answer : goal.returns-in-Got-flags_into-clause-answer
-unfolding member_flags flags_in
-returns-in-Got-flags_into-clause-answer c = search laws depth 7
+pub returns-in_err-n-clause-content : goal.returns-in_err-n-clause-content
+unfolding member_flags flags_in member_content content_of
+returns-in_err-n-clause-content c = search laws depth 7
 
-pub returns-in-Got-flags_into-clause-content : goal.returns-in-Got-flags_into-clause-content
+pub returns-clause-answer : goal.returns-clause-answer
 unfolding member_flags flags_in
-returns-in-Got-flags_into-clause-content c = search laws depth 7
+returns-clause-answer c = search laws depth 7
 
-pub returns-in-Refused-flags_into-clause-content : goal.returns-in-Refused-flags_into-clause-content
-unfolding member_flags flags_in
-returns-in-Refused-flags_into-clause-content c = search laws depth 7
+pub returns-clause-content : goal.returns-clause-content
+unfolding member_flags flags_in member_content content_of
+returns-clause-content c = search laws depth 7

@@ -2,10 +2,10 @@ use Rattle.class_readers.proofs.SpotLaws.{under_laws as laws}
 use Rattle.class_readers.specs.Members.{member_under}
 use Rattle.class_readers.proofs.members.member_under.Goals as goal
 
-pub returns-in-Refused : goal.returns-in-Refused
+pub returns-in_err-m : goal.returns-in_err-m
 unfolding member_under
-returns-in-Refused c = search laws
+returns-in_err-m c = search laws
 
-pub returns-in-Got : goal.returns-in-Got
+pub returns : goal.returns
 unfolding member_under
-returns-in-Got c = search laws
+returns c = search laws

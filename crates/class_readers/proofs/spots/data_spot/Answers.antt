@@ -2,10 +2,10 @@ use Rattle.class_readers.proofs.SpotLaws.{laws}
 use Rattle.class_readers.specs.Spots.{data_spot}
 use Rattle.class_readers.proofs.spots.data_spot.Goals as goal
 
-pub returns-in-Refused : goal.returns-in-Refused
+pub returns-in_err-header : goal.returns-in_err-header
 unfolding data_spot
-returns-in-Refused c = search laws
+returns-in_err-header c = search laws
 
-pub returns-in-Got : goal.returns-in-Got
+pub returns : goal.returns
 unfolding data_spot
-returns-in-Got c = search laws
+returns c = search laws

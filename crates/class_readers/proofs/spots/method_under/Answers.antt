@@ -6,10 +6,10 @@ pub returns-then-list-ge2 : goal.returns-then-list-ge2
 unfolding method_under
 returns-then-list-ge2 c = search laws
 
-pub returns-in-Refused : goal.returns-in-Refused
+pub returns-in_err-m : goal.returns-in_err-m
 unfolding method_under
-returns-in-Refused c = search laws
+returns-in_err-m c = search laws
 
-pub returns-else-list-ge2 : goal.returns-else-list-ge2
+pub returns : goal.returns
 unfolding method_under
-returns-else-list-ge2 c = search laws
+returns c = search laws
