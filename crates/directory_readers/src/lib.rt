@@ -23,7 +23,7 @@ fn directory_in(f: &[u8], header: Header, c: u32) -> Result<Reached, Refusal>
 {
     let found = table_readers::class_in(f, header, c)?;
     Ok(Reached {
-        header: header,
+        header,
         place: found.directory,
     })
 }
@@ -56,8 +56,7 @@ pub fn directory(f: &[u8], c: u32) -> Result<Option<DirectoryHead>, Refusal>
     ensures { directory_outcome result ≡ directory f.now c }
 {
     let d = directory_of(f, c)?;
-    let header = d.header;
-    head_in(f, header, d.place)
+    head_in(f, d.header, d.place)
 }
 
 // Entry k of a list of the directory at a place: at 0 there are none.
@@ -86,8 +85,7 @@ fn entry_of(f: &[u8], c: u32, list: u32, k: u32) -> Result<DirectoryEntry, Refus
     ensures { directory_entry_outcome result ≡ entry_number f.now c list k }
 {
     let d = directory_of(f, c)?;
-    let header = d.header;
-    entry_in(f, header, d.place, list, k)
+    entry_in(f, d.header, d.place, list, k)
 }
 
 // Field entry k of class c: the field, and where its set is.

@@ -3,24 +3,16 @@
 use Prim.Native.Nat.{ℕ}
 use mathlib.Core.Path.{◌≡◌, ap, ◌∙◌}
 use mathlib.Core.Bool.{Bool}
-use mathlib.Core.Option.{Option}
 use mathlib.Core.List.{List}
 use borrow.Author.Rules.{rules}
-use Rattle.refusal.specs.Outcome.{Outcome, ◌>>=◌}
-use Rattle.refusal.proofs.Laws.{tests, calls}
+use Rattle.refusal.specs.declared.Refusal.{Refusal}
+use Rattle.refusal.specs.Outcome.{Outcome, answer, refused, ◌>>=◌}
+use Rattle.refusal.proofs.Laws.{tests, calls, on_ok, on_err}
 use Rattle.frame.specs.declared.Frame.{Frame}
 use Rattle.header.specs.declared.Header.{Header}
 use Rattle.header.specs.Header.{up_to_end, frame_of}
-use Rattle.annotation_directories.specs.declared.DirectoryHead.{DirectoryHead}
-use Rattle.annotation_lists.specs.declared.WordAnswer.{WordAnswer}
-use Rattle.annotation_directories.specs.declared.DirectoryEntryAnswer.{DirectoryEntryAnswer}
-use Rattle.annotation_lists.specs.Answers.{word_outcome}
-use Rattle.annotation_directories.specs.Answers.{directory_entry_outcome}
 use Rattle.annotation_lists.specs.Offsets.{offset_count, offset_number}
-use Rattle.annotation_directories.specs.Directories.{DirectoryEntry}
 use Rattle.directory_readers.specs.declared.Reached.{Reached}
-use Rattle.directory_readers.specs.declared.DirectoryAnswer.{DirectoryAnswer}
-use Rattle.directory_readers.specs.Answers.{directory_outcome}
 use Rattle.set_readers.specs.Sets.{annotation_count, annotation_place}
 
 -- a set that was reached, by what the call said, p
@@ -39,10 +31,14 @@ module _ (f : List ℕ) (h : Header) (handles item : ℕ) {s : List ℕ} {r : Fr
   pub number_framed : (k : ℕ) {y : Outcome ℕ} → y ≡ offset_number s r item absent four k → y ≡ offset_number (up_to_end f h) (frame_of h handles) item absent four k
   number_framed k q = q ∙ (λ i. offset_number (e i) (g i) item absent four k)
 
-  pub on_number : {B : Type 0} {x c : WordAnswer} {y : Outcome B} (n : ℕ) (k : ℕ → Outcome B) → word_outcome x ≡ offset_number s r item absent four n → x ≡ c → y ≡ (word_outcome c >>= k)
+  pub place_framed : {B : Type 0} {p : ℕ} {y : Outcome B} (n : ℕ) (k : ℕ → Outcome B) → answer p ≡ offset_number s r item absent four n → y ≡ k p
       → y ≡ (offset_number (up_to_end f h) (frame_of h handles) item absent four n >>= k)
-  on_number n k q = said word_outcome k (number_framed n q)
+  place_framed n k q = on_ok k (number_framed n q)
+
+  pub place_unframed : {B : Type 0} {x : Refusal} (n : ℕ) (k : ℕ → Outcome B) → refused x ≡ offset_number s r item absent four n
+      → refused x ≡ (offset_number (up_to_end f h) (frame_of h handles) item absent four n >>= k)
+  place_unframed n k q = on_err k (number_framed n q)
 
 pub ruleset laws = (count_reached, place_reached, calls, rules)
 
-pub ruleset framed = (count_framed, number_framed, calls, tests, rules)
+pub ruleset framed = (count_framed, number_framed, place_framed, place_unframed, calls, tests, rules)

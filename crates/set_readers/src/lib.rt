@@ -17,14 +17,10 @@ use refusal::Refusal;
 fn class_set_in(f: &[u8], header: Header, at: u32) -> Result<Reached, Refusal>
     ensures { reached_outcome result ≡ class_set_in f.now header at }
 {
-    match directory_readers::head_in(f, header, at) {
-        Err(r) => Err(r),
-        Ok(None) => Ok(Reached {
-            header: header,
-            place: 0,
-        }),
-        Ok(Some(head)) => Ok(Reached {
-            header: header,
+    match directory_readers::head_in(f, header, at)? {
+        None => Ok(Reached { header, place: 0 }),
+        Some(head) => Ok(Reached {
+            header,
             place: head.set,
         }),
     }
@@ -34,8 +30,7 @@ fn class_set(f: &[u8], c: u32) -> Result<Reached, Refusal>
     ensures { reached_outcome result ≡ class_set f.now c }
 {
     let d = directory_readers::directory_of(f, c)?;
-    let header = d.header;
-    class_set_in(f, header, d.place)
+    class_set_in(f, d.header, d.place)
 }
 
 // Where entry e of a list leads to, by the directory at a place.
@@ -44,7 +39,7 @@ fn entry_set_in(f: &[u8], header: Header, at: u32, list: u32, e: u32) -> Result<
 {
     let DirectoryEntry { offset, .. } = directory_readers::entry_in(f, header, at, list, e)?;
     Ok(Reached {
-        header: header,
+        header,
         place: offset,
     })
 }
@@ -53,8 +48,7 @@ fn entry_set(f: &[u8], c: u32, list: u32, e: u32) -> Result<Reached, Refusal>
     ensures { reached_outcome result ≡ entry_set f.now c list e }
 {
     let d = directory_readers::directory_of(f, c)?;
-    let header = d.header;
-    entry_set_in(f, header, d.place, list, e)
+    entry_set_in(f, d.header, d.place, list, e)
 }
 
 // Where set p of the reference list at a place is, 0 where it is absent.
@@ -68,7 +62,7 @@ fn parameter_set_in(f: &[u8], header: Header, at: u32, p: u32) -> Result<Reached
         p,
     )?;
     Ok(Reached {
-        header: header,
+        header,
         place,
     })
 }
@@ -77,8 +71,7 @@ fn parameter_set(f: &[u8], c: u32, e: u32, p: u32) -> Result<Reached, Refusal>
     ensures { reached_outcome result ≡ parameter_set f.now c e p }
 {
     let l = entry_set(f, c, 2, e)?;
-    let header = l.header;
-    parameter_set_in(f, header, l.place, p)
+    parameter_set_in(f, l.header, l.place, p)
 }
 
 fn references_in(f: &[u8], header: Header, at: u32) -> Result<u32, Refusal>
@@ -96,8 +89,7 @@ pub fn parameter_set_count(f: &[u8], c: u32, e: u32) -> Result<u32, Refusal>
     ensures { word_outcome result ≡ parameter_set_count f.now c e }
 {
     let l = entry_set(f, c, 2, e)?;
-    let header = l.header;
-    references_in(f, header, l.place)
+    references_in(f, l.header, l.place)
 }
 
 // How many annotations the set at a place has, 0 where it is absent.
@@ -133,8 +125,7 @@ fn count_of(f: &[u8], set: Result<Reached, Refusal>) -> Result<u32, Refusal>
     ensures { word_outcome result ≡ annotation_count f.now (reached_outcome set) }
 {
     let reached = set?;
-    let header = reached.header;
-    set_count(f, header, reached.place)
+    set_count(f, reached.header, reached.place)
 }
 
 // Where annotation k of the set is that was reached.
@@ -142,8 +133,7 @@ fn place_of(f: &[u8], set: Result<Reached, Refusal>, k: u32) -> Result<u32, Refu
     ensures { word_outcome result ≡ annotation_place f.now (reached_outcome set) k }
 {
     let reached = set?;
-    let header = reached.header;
-    set_number(f, header, reached.place, k)
+    set_number(f, reached.header, reached.place, k)
 }
 
 // How many annotations class c has.

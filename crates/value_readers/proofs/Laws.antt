@@ -5,25 +5,18 @@ use mathlib.Core.Path.{◌≡◌, ap, ◌∙◌}
 use mathlib.Core.List.{List}
 use borrow.Author.Rules.{rules}
 use native.Mathlib.Omega.{arith}
-use Rattle.refusal.specs.Outcome.{Outcome, ◌>>=◌}
+use Rattle.refusal.specs.Outcome.{Outcome, answer}
 use Rattle.refusal.proofs.Laws.{tests, calls}
 use Rattle.frame.specs.declared.Frame.{Frame}
 use Rattle.header.specs.declared.Header.{Header}
 use Rattle.header.specs.Header.{up_to_end, frame_of}
-use Rattle.class_ids.proofs.Laws.{laws as class-laws}
 use Rattle.value_heads.specs.declared.Walk.{Walk}
 use Rattle.value_heads.specs.Kinds.{walk_of}
 use Rattle.encoded_value.specs.Depth.{deepest}
 use Rattle.encoded_value.specs.Readings.{past_array, past_annotation}
-use Rattle.encoded_value.specs.Answers.{step_outcome}
-use Rattle.encoded_value.specs.declared.StepAnswer.{StepAnswer}
-use Rattle.encoded_value.specs.declared.StepAnswer.TheVariants.{Next}
 use Rattle.encoded_value.proofs.Bounds.{array_ends, annotation_ends}
 use Rattle.decoded_value.specs.Shown.{Shown}
-use Rattle.value_bodies.specs.Bodies.{Noted, ShownElement, array_count, array_value, annotation_element}
-use Rattle.value_bodies.specs.declared.BodySizeAnswer.{BodySizeAnswer}
-use Rattle.value_bodies.specs.declared.AnnotationHeadAnswer.{AnnotationHeadAnswer}
-use Rattle.value_bodies.specs.Answers.{count_outcome, annotation_head_outcome}
+use Rattle.value_bodies.specs.Bodies.{ShownElement, array_count, array_value, annotation_element}
 use Rattle.annotation_items.specs.Items.{Summary, item_summary, item_element}
 use Rattle.value_readers.specs.Opening.{walk_in}
 use Rattle.value_readers.specs.Bodies.{ArraySize, array_body, NotedSize, noted_body}
@@ -57,11 +50,11 @@ module _ (f : List ℕ) (h : Header) (handles item : ℕ) {s : List ℕ} {r : Fr
   element_framed k q = q ∙ (λ i. item_element (e i) (g i) item k)
 
 -- a body ends after its place
-pub array_room : (s : List ℕ) (w : Walk) (p : ℕ) {x : StepAnswer} {q : ℕ} → step_outcome x ≡ past_array s w deepest p → x ≡ Next q → p ≤ q
-array_room s w p e t = let h = array_ends s w deepest p e t in let z = h.after_place in omega arith
+pub array_room : (s : List ℕ) (w : Walk) (p : ℕ) {q : ℕ} → answer q ≡ past_array s w deepest p → p ≤ q
+array_room s w p e = let h = array_ends s w deepest p e in let z = h.after_place in omega arith
 
-pub annotation_room : (s : List ℕ) (w : Walk) (p : ℕ) {x : StepAnswer} {q : ℕ} → step_outcome x ≡ past_annotation s w deepest p → x ≡ Next q → p ≤ q
-annotation_room s w p e t = let h = annotation_ends s w deepest p e t in let z = h.after_place in omega arith
+pub annotation_room : (s : List ℕ) (w : Walk) (p : ℕ) {q : ℕ} → answer q ≡ past_annotation s w deepest p → p ≤ q
+annotation_room s w p e = let h = annotation_ends s w deepest p e in let z = h.after_place in omega arith
 
 pub ruleset body_laws = (array_room, annotation_room, calls, rules)
 
@@ -69,4 +62,4 @@ pub ruleset walked = (walk_framed, count_walked, value_walked, calls, tests, rul
 
 pub ruleset placed = (array_walked, value_walked, body_walked, element_walked, summary_framed, element_framed, calls, rules)
 
-pub ruleset laws = (class-laws, calls, tests, rules)
+pub ruleset laws = (calls, tests, rules)

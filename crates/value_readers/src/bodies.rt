@@ -5,6 +5,7 @@ ghost use Rattle.value_readers.specs.Bodies.{array_body, noted_body, array_of, a
 ghost use Rattle.value_readers.specs.Answers.{array_outcome, body_outcome};
 
 use super::{ArrayOutline, BodyOutline};
+use decoded_value::Value;
 use refusal::Refusal;
 use value_bodies::{AnnotationHead, Element};
 use value_heads::Walk;
@@ -26,10 +27,9 @@ pub fn array(f: &[u8], place: usize) -> Result<ArrayOutline, Refusal>
     ensures { array_outcome result ≡ array_of f.now place }
 {
     let o = super::opening::open_within(f, place)?;
-    let header = o.header;
     array_body(
-        header::up_to_end(f, header),
-        super::opening::walk_in(header, o.handles, place),
+        header::up_to_end(f, o.header),
+        super::opening::walk_in(o.header, o.handles, place),
         place,
     )
 }
@@ -39,10 +39,9 @@ pub fn array_value(f: &[u8], place: usize, k: u32) -> Result<Value, Refusal>
     ensures { picked_outcome result ≡ array_value_of f.now place k }
 {
     let o = super::opening::open_within(f, place)?;
-    let header = o.header;
     value_bodies::array_value(
-        header::up_to_end(f, header),
-        super::opening::walk_in(header, o.handles, place),
+        header::up_to_end(f, o.header),
+        super::opening::walk_in(o.header, o.handles, place),
         place,
         k,
     )
@@ -66,10 +65,9 @@ pub fn annotation_body(f: &[u8], place: usize) -> Result<BodyOutline, Refusal>
     ensures { body_outcome result ≡ body_of f.now place }
 {
     let o = super::opening::open_within(f, place)?;
-    let header = o.header;
     noted_body(
-        header::up_to_end(f, header),
-        super::opening::walk_in(header, o.handles, place),
+        header::up_to_end(f, o.header),
+        super::opening::walk_in(o.header, o.handles, place),
         place,
     )
 }
@@ -79,10 +77,9 @@ pub fn annotation_body_element(f: &[u8], place: usize, k: u32) -> Result<Element
     ensures { element_outcome result ≡ body_element_of f.now place k }
 {
     let o = super::opening::open_within(f, place)?;
-    let header = o.header;
     value_bodies::annotation_element(
-        header::up_to_end(f, header),
-        super::opening::walk_in(header, o.handles, place),
+        header::up_to_end(f, o.header),
+        super::opening::walk_in(o.header, o.handles, place),
         place,
         k,
     )

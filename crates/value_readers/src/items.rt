@@ -13,10 +13,9 @@ pub fn annotation(f: &[u8], place: usize) -> Result<Summary, Refusal>
     ensures { summary_outcome result ≡ annotation_of f.now place }
 {
     let o = super::opening::open_within(f, place)?;
-    let header = o.header;
     annotation_items::annotation(
-        header::up_to_end(f, header),
-        header::frame_of(header, o.handles),
+        header::up_to_end(f, o.header),
+        header::frame_of(o.header, o.handles),
         place,
     )
 }
@@ -26,10 +25,9 @@ pub fn annotation_element(f: &[u8], place: usize, k: u32) -> Result<Element, Ref
     ensures { element_outcome result ≡ annotation_element_of f.now place k }
 {
     let o = super::opening::open_within(f, place)?;
-    let header = o.header;
     annotation_items::annotation_element(
-        header::up_to_end(f, header),
-        header::frame_of(header, o.handles),
+        header::up_to_end(f, o.header),
+        header::frame_of(o.header, o.handles),
         place,
         k,
     )

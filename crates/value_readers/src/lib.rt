@@ -2,8 +2,6 @@
 // 7 for the inner number.
 #![tactic(auto)]
 
-use refusal::Refusal;
-
 mod bodies;
 mod items;
 mod opening;

@@ -5,6 +5,7 @@ ghost use Rattle.value_readers.specs.Opening.{walk_in, opened_within};
 
 use header::Header;
 use refusal::Refusal;
+use table_readers::Opened;
 use value_heads::Walk;
 
 // The file opened, 7 for a place outside its data section. Bodies and annotation items need no alignment.
@@ -12,8 +13,7 @@ pub fn open_within(f: &[u8], place: usize) -> Result<Opened, Refusal>
     ensures { opened_outcome result ≡ opened_within f.now place }
 {
     let o = table_readers::open(f)?;
-    let header = o.header;
-    if frame::is_allowed(header.start, header.end, false, place) {
+    if frame::is_allowed(o.header.start, o.header.end, false, place) {
         return Ok(o);
     }
     Err(refusal::not_there())

@@ -3,6 +3,7 @@ ghost use Rattle.std.specs.Prelude.{◌≡◌};
 ghost use Rattle.value_bodies.specs.Answers.{count_outcome, picked_outcome};
 ghost use Rattle.value_readers.specs.Statics.{values_in, values_under, static_count, static_value_in, value_under, static_value};
 
+use decoded_value::Value;
 use header::Header;
 use refusal::Refusal;
 
@@ -33,8 +34,7 @@ pub fn static_value_count(f: &[u8], c: u32) -> Result<u32, Refusal>
     ensures { count_outcome result ≡ static_count f.now c }
 {
     let o = table_readers::open(f)?;
-    let header = o.header;
-    values_under(f, header, o.handles, c)
+    values_under(f, o.header, o.handles, c)
 }
 
 // Value k of the array of a class.
@@ -65,6 +65,5 @@ pub fn static_value(f: &[u8], c: u32, k: u32) -> Result<Value, Refusal>
     ensures { picked_outcome result ≡ static_value f.now c k }
 {
     let o = table_readers::open(f)?;
-    let header = o.header;
-    value_under(f, header, o.handles, c, k)
+    value_under(f, o.header, o.handles, c, k)
 }

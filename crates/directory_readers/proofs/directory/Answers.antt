@@ -2,10 +2,10 @@ use Rattle.directory_readers.proofs.Laws.{laws}
 use Rattle.directory_readers.specs.Directories.{directory}
 use Rattle.directory_readers.proofs.directory.Goals as goal
 
-pub returns-in-Refused : goal.returns-in-Refused
+pub returns-in_err-d : goal.returns-in_err-d
 unfolding directory
-returns-in-Refused c = search laws
+returns-in_err-d c = search laws
 
-pub returns-in-Got : goal.returns-in-Got
+pub returns : goal.returns
 unfolding directory
-returns-in-Got c = search laws
+returns c = search laws

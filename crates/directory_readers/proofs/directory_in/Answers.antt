@@ -2,10 +2,10 @@ use Rattle.directory_readers.proofs.Laws.{laws}
 use Rattle.directory_readers.specs.Directories.{directory_in}
 use Rattle.directory_readers.proofs.directory_in.Goals as goal
 
-pub returns-in-Refused : goal.returns-in-Refused
+pub returns-in_err-found : goal.returns-in_err-found
 unfolding directory_in
-returns-in-Refused c = search laws
+returns-in_err-found c = search laws
 
-pub returns-in-Got : goal.returns-in-Got
+pub returns : goal.returns
 unfolding directory_in
-returns-in-Got c = search laws
+returns c = search laws

@@ -2,10 +2,10 @@ use Rattle.directory_readers.proofs.Laws.{laws}
 use Rattle.directory_readers.specs.Directories.{directory_of}
 use Rattle.directory_readers.proofs.directory_of.Goals as goal
 
-pub returns-in-Refused : goal.returns-in-Refused
+pub returns-in_err-header : goal.returns-in_err-header
 unfolding directory_of
-returns-in-Refused c = search laws
+returns-in_err-header c = search laws
 
-pub returns-in-Got : goal.returns-in-Got
+pub returns : goal.returns
 unfolding directory_of
-returns-in-Got c = search laws
+returns c = search laws

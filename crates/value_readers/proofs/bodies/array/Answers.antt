@@ -2,10 +2,10 @@ use Rattle.value_readers.proofs.Laws.{placed as laws}
 use Rattle.value_readers.specs.Bodies.{array_of}
 use Rattle.value_readers.proofs.bodies.array.Goals as goal
 
-pub returns-in-Refused : goal.returns-in-Refused
+pub returns-in_err-o : goal.returns-in_err-o
 unfolding array_of
-returns-in-Refused c = search laws
+returns-in_err-o c = search laws
 
-pub returns-in-Got : goal.returns-in-Got
+pub returns : goal.returns
 unfolding array_of
-returns-in-Got c = search laws
+returns c = search laws

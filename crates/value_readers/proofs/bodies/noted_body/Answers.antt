@@ -5,14 +5,14 @@ use Rattle.value_readers.proofs.bodies.noted_body.Goals as goal
 pub overflow_sub-result : goal.overflow_sub-result
 overflow_sub-result c = search laws
 
-pub returns-in-Refused : goal.returns-in-Refused
+pub returns-in_err-type_index : goal.returns-in_err-type_index
 unfolding noted_body
-returns-in-Refused c = search laws
+returns-in_err-type_index c = search laws
 
-pub returns-in-Refused-top_annotation : goal.returns-in-Refused-top_annotation
+pub returns-in_err-end : goal.returns-in_err-end
 unfolding noted_body
-returns-in-Refused-top_annotation c = search laws
+returns-in_err-end c = search laws
 
-pub returns-in-Next : goal.returns-in-Next
+pub returns : goal.returns
 unfolding noted_body
-returns-in-Next c = search laws
+returns c = search laws

@@ -6,10 +6,10 @@ pub returns-then-is_allowed : goal.returns-then-is_allowed
 unfolding opened_within
 returns-then-is_allowed c = search laws
 
-pub returns-in-Refused : goal.returns-in-Refused
+pub returns-in_err-o : goal.returns-in_err-o
 unfolding opened_within
-returns-in-Refused c = search laws
+returns-in_err-o c = search laws
 
-pub returns-else-is_allowed : goal.returns-else-is_allowed
+pub returns : goal.returns
 unfolding opened_within
-returns-else-is_allowed c = search laws
+returns c = search laws

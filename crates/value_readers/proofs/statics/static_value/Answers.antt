@@ -2,10 +2,10 @@ use Rattle.value_readers.proofs.Laws.{laws}
 use Rattle.value_readers.specs.Statics.{static_value}
 use Rattle.value_readers.proofs.statics.static_value.Goals as goal
 
-pub returns-in-Refused : goal.returns-in-Refused
+pub returns-in_err-o : goal.returns-in_err-o
 unfolding static_value
-returns-in-Refused c = search laws
+returns-in_err-o c = search laws
 
-pub returns-in-Got : goal.returns-in-Got
+pub returns : goal.returns
 unfolding static_value
-returns-in-Got c = search laws
+returns c = search laws

@@ -2,10 +2,10 @@ use Rattle.value_readers.proofs.Laws.{laws}
 use Rattle.value_readers.specs.Statics.{value_under}
 use Rattle.value_readers.proofs.statics.value_under.Goals as goal
 
-pub returns-in-Refused : goal.returns-in-Refused
+pub returns-in_err-found : goal.returns-in_err-found
 unfolding value_under
-returns-in-Refused c = search laws
+returns-in_err-found c = search laws
 
-pub returns-in-Got : goal.returns-in-Got
+pub returns : goal.returns
 unfolding value_under
-returns-in-Got c = search laws
+returns c = search laws

@@ -2,10 +2,10 @@ use Rattle.value_readers.proofs.Laws.{laws}
 use Rattle.value_readers.specs.Statics.{values_under}
 use Rattle.value_readers.proofs.statics.values_under.Goals as goal
 
-pub returns-in-Refused : goal.returns-in-Refused
+pub returns-in_err-found : goal.returns-in_err-found
 unfolding values_under
-returns-in-Refused c = search laws
+returns-in_err-found c = search laws
 
-pub returns-in-Got : goal.returns-in-Got
+pub returns : goal.returns
 unfolding values_under
-returns-in-Got c = search laws
+returns c = search laws
