@@ -11,13 +11,11 @@ use lib.IntN.{ℤ}
 use borrow.Author.Rules.{rules}
 use borrow.Author.Tests.{lt-ltb, le-ltb, le-leb, lt-leb, eqb-true}
 use native.Mathlib.Omega.{arith}
-use mir.Syntax.{w32}
-use mir.Val.{Fits}
 use Rattle.refusal.specs.Refusals.{too_many_values}
 use Rattle.refusal.specs.declared.Refusal.{Refusal}
 use Rattle.refusal.specs.Outcome.{Outcome, answer, refused, ◌>>=◌, given}
 use Rattle.refusal.specs.Rows.{Found, past, in_front, collect}
-use Rattle.refusal.proofs.Laws.{calls, tests, bind_answer, bind_refused, refused_by, passes, fails}
+use Rattle.refusal.proofs.Laws.{calls, tests, handed_on, on_ok, on_err, bind_answer, bind_refused, refused_by, passes, fails, one_less, some_left, all_left}
 use Rattle.refusal.proofs.Exact.{answers_equal, never}
 use Rattle.refusal.proofs.Rows.{past_answer, past_refused, bind_assoc, collect_exact}
 use Rattle.refusal.proofs.Kept.{part_answer, part_refused}
@@ -27,28 +25,18 @@ use Rattle.leb128.proofs.Exactly.{uleb_exact}
 use Rattle.frame.specs.declared.Frame.{Frame}
 use Rattle.header.specs.declared.Header.{Header}
 use Rattle.header.specs.Header.{up_to_end, plain_frame, frame_of}
-use Rattle.class_ids.proofs.Laws.{laws as class-laws}
 use Rattle.class_members.specs.declared.Member.{Member}
-use Rattle.class_members.specs.declared.MemberFoundAnswer.{MemberFoundAnswer}
-use Rattle.class_members.specs.declared.MemberFoundAnswer.TheVariants as F
 use Rattle.class_members.specs.declared.MemberJudge.{MemberJudge}
-use Rattle.class_members.specs.Answers.{found_outcome}
 use Rattle.class_members.specs.Members.{member_at, Run, step_at, begin, members_at}
 use Rattle.class_data.specs.declared.Counts.{Counts}
 use Rattle.class_data.specs.Data.{Two, two_at, fields_judge, methods_judge, ClassData, class_data_at, counts, extent_at, counts_at}
 use Rattle.value_heads.specs.declared.Walk.{Walk}
-use Rattle.value_heads.specs.declared.HeadByteAnswer.{HeadByteAnswer}
-use Rattle.value_heads.specs.declared.HeadByteAnswer.TheVariants as H
 use Rattle.value_heads.specs.Kinds.{walk_of}
 use Rattle.value_heads.specs.Numbers.{signed, raised}
 use Rattle.value_heads.specs.Readings.{head_byte_at, checked_at}
-use Rattle.value_heads.specs.Answers.{head_byte_outcome}
 use Rattle.encoded_value.specs.Tree.{Tree, byte, short, char, int, long, float, double, index, null, boolean, array, annotation, plain_of, rest_of, trees, elements_of, Annotation}
 use Rattle.encoded_value.specs.Depth.{deepest, deepest_value}
 use Rattle.encoded_value.specs.Readings.{as_array, as_annotation, plain_at, kind_with, array_with, value_at, array_at, annotation_at, past_value}
-use Rattle.encoded_value.specs.declared.StepAnswer.{StepAnswer}
-use Rattle.encoded_value.specs.declared.StepAnswer.TheVariants as S
-use Rattle.encoded_value.specs.Answers.{step_outcome}
 use Rattle.encoded_value.proofs.Layers.{ArrayWithin, array_parts}
 use Rattle.encoded_value.proofs.Exactly.{value_exact, array_exact}
 use Rattle.encoded_value.proofs.Cycle.{no_value, value_kind}
@@ -56,15 +44,8 @@ use Rattle.decoded_value.specs.Shown.{Shown, shown}
 use Rattle.value_bodies.specs.Bodies.{array_count}
 use Rattle.value_readers.specs.Opening.{walk_in}
 use Rattle.value_readers.proofs.Laws.{walk_framed}
-use Rattle.static_fields.specs.declared.KindAnswer.{KindAnswer}
-use Rattle.static_fields.specs.declared.FitsAnswer.{FitsAnswer}
-use Rattle.static_fields.specs.declared.FitsNextAnswer.{FitsNextAnswer}
-use Rattle.static_fields.specs.declared.FitsNextAnswer.TheVariants as N
-use Rattle.static_fields.specs.declared.BeginAnswer.{BeginAnswer}
-use Rattle.static_fields.specs.declared.BeginAnswer.TheVariants as B
 use Rattle.static_fields.specs.Pairing.{WrongKind, fits_of, first_wrong, class_place, type_text, fields_in, stored_in, wrong_under}
 use Rattle.static_fields.specs.Stages.{fields_begin, values_begin, fields_from, values_from, kind_at, fits_at, wrong_from}
-use Rattle.static_fields.specs.Answers.{kind_outcome, fits_outcome, fits_next_outcome, begin_outcome}
 use Rattle.static_fields.proofs.TextLaws.{bind_parts}
 
 -- ---- the kind of a value is that of its head byte
@@ -118,22 +99,21 @@ kind_of s w body noted h p {r} = go (eqb (h % 32) 0x1c) (eqb (h % 32) 0x1d) refl
         let a = part_answer (λ (n : Found ℕ ℕ). record { item = plain_of (h % 32) (h / 32) n.item; next = n.next }) (checked_at s w h p) e in
         ap (λ (v : Found Tree ℕ). (shown v.item).kind) (sym a.1.1) ∙ plain_kind (h % 32) (h / 32) a.0.item
 
-module _ (s : List ℕ) (w : Walk) (p : ℕ) {x : HeadByteAnswer} (e : head_byte_outcome x ≡ head_byte_at s w.item p) where
-  pub kind_no_head : {r : Refusal} → x ≡ H.Refused r → refused r ≡ kind_at s w p
+module _ (s : List ℕ) (w : Walk) (p : ℕ) where
+  pub kind_no_head : {r : Refusal} → refused r ≡ head_byte_at s w.item p → refused r ≡ kind_at s w p
   unfolding kind_at
-  kind_no_head t = sym (bind_refused _ (no_value s w deepest_value p e t))
+  kind_no_head e = sym (bind_refused _ (no_value s w deepest_value p e))
 
-  module _ {h : ℕ} (t : x ≡ H.Got h) {y : StepAnswer} (g : step_outcome y ≡ past_value s w deepest_value p) where
-    pub kind_no_value : {r : Refusal} → y ≡ S.Refused r → refused r ≡ kind_at s w p
-    unfolding kind_at
-    kind_no_value u = sym (bind_refused _ (sym (past_refused (value_at s w deepest_value p) (sym (ap step_outcome u) ∙ g))))
+  pub kind_no_value : {r : Refusal} → refused r ≡ past_value s w deepest_value p → refused r ≡ kind_at s w p
+  unfolding kind_at
+  kind_no_value g = sym (bind_refused _ (sym (past_refused (value_at s w deepest_value p) g)))
 
-    pub kind_got : {q : ℕ} → y ≡ S.Next q → answer (record { item = h % 32; next = q }) ≡ kind_at s w p
-    unfolding kind_at
-    kind_got {q} u =
-        let a = past_answer (value_at s w deepest_value p) (sym (ap step_outcome u) ∙ g) in
-        let k = kind_of s w (array_at s w deepest_value) (annotation_at s w deepest_value) h (p + 1) (sym (value_kind s w deepest_value p e t) ∙ sym a.1.0) in
-        sym (bind_answer _ (sym a.1.0) ∙ (λ i. answer (record { item = k i; next = a.1.1 i })))
+  pub kind_got : {h q : ℕ} → answer h ≡ head_byte_at s w.item p → answer q ≡ past_value s w deepest_value p → answer (record { item = h % 32; next = q }) ≡ kind_at s w p
+  unfolding kind_at
+  kind_got {h} e g =
+      let a = past_answer (value_at s w deepest_value p) g in
+      let k = kind_of s w (array_at s w deepest_value) (annotation_at s w deepest_value) h (p + 1) (sym (value_kind s w deepest_value p e) ∙ sym a.1.0) in
+      sym (bind_answer _ (sym a.1.0) ∙ (λ i. answer (record { item = k i; next = a.1.1 i })))
 
 -- what was read in the file up to the data section's end, s, against the file's frame or walk
 pub fields_framed : (f : List ℕ) (h : Header) (at : ℕ) {s : List ℕ} {r : Frame} {y : Outcome (Found ℕ ℕ)} → s ≡ up_to_end f h → r ≡ plain_frame h → y ≡ fields_begin s r at → y ≡ fields_begin (up_to_end f h) (plain_frame h) at
@@ -142,9 +122,12 @@ fields_framed f h at e g q = q ∙ (λ i. fields_begin (e i) (g i) at)
 pub values_walked : (f : List ℕ) (h : Header) (handles at : ℕ) {s : List ℕ} {w : Walk} {y : Outcome (Found ℕ ℕ)} → s ≡ up_to_end f h → w ≡ walk_in h handles at → y ≡ values_begin s w at → y ≡ values_begin (up_to_end f h) (walk_in h handles at) at
 values_walked f h handles at e g q = q ∙ (λ i. values_begin (e i) (g i) at)
 
-pub kind_walked : (f : List ℕ) (h : Header) (handles at p : ℕ) {s : List ℕ} {w : Walk} {x c : KindAnswer} {B : Type 0} {y : Outcome B} (k : Found ℕ ℕ → Outcome B) → s ≡ up_to_end f h → w ≡ walk_in h handles at
-    → kind_outcome x ≡ kind_at s w p → x ≡ c → y ≡ (kind_outcome c >>= k) → y ≡ (kind_at (up_to_end f h) (walk_in h handles at) p >>= k)
-kind_walked f h handles at p k e g q t v = said kind_outcome k (q ∙ (λ i. kind_at (e i) (g i) p)) t v
+module _ (f : List ℕ) (h : Header) (handles at p : ℕ) {s : List ℕ} {w : Walk} {B : Type 0} (k : Found ℕ ℕ → Outcome B) (e : s ≡ up_to_end f h) (g : w ≡ walk_in h handles at) where
+  pub kind_walked : {a n : ℕ} {y : Outcome B} → answer (record { item = a; next = n }) ≡ kind_at s w p → y ≡ k (record { item = a; next = n }) → y ≡ (kind_at (up_to_end f h) (walk_in h handles at) p >>= k)
+  kind_walked q v = on_ok k (q ∙ (λ i. kind_at (e i) (g i) p)) v
+
+  pub no_kind_walked : {r : Refusal} → refused r ≡ kind_at s w p → refused r ≡ (kind_at (up_to_end f h) (walk_in h handles at) p >>= k)
+  no_kind_walked q = on_err k (q ∙ (λ i. kind_at (e i) (g i) p))
 
 -- ---- a row, by its first item and the rest
 record Split {A S : Type 0} (step : S → Outcome (Found A S)) (n : ℕ) (s : S) (r : Found (List A) S) : Type 0 where
@@ -161,9 +144,9 @@ split {A} {S} step n s r e =
     let b = bind_parts (collect n step a.0.next) (in_front a.0.item) a.1.1 in
     record { first_one = a.0; rest = b.0; begins = a.1.0; goes_on = b.1.0; whole = ap (λ (x : Found (List A) S). x.item) (answers_equal b.1.1) }
 
-none_left : {A S : Type 0} (step : S → Outcome (Found A S)) (s : S) (r : Found (List A) S) → collect zero step s ≡ answer r → r.item ≡ []
+no_items : {A S : Type 0} (step : S → Outcome (Found A S)) (s : S) (r : Found (List A) S) → collect zero step s ≡ answer r → r.item ≡ []
 unfolding collect
-none_left {A} {S} step s r e = ap (λ (x : Found (List A) S). x.item) (sym (answers_equal e))
+no_items {A} {S} step s r e = ap (λ (x : Found (List A) S). x.item) (sym (answers_equal e))
 
 -- ---- the second going over finds what the first did
 module _ (f : List ℕ) (h : Header) (handles at values : ℕ) where
@@ -187,7 +170,7 @@ module _ (f : List ℕ) (h : Header) (handles at values : ℕ) where
   again : (n m : ℕ) (t : Run) (p k : ℕ) (fields : Found (List Member) Run) (vs : Found (List Tree) ℕ) → n ≤ m → collect m field_step t ≡ answer fields → collect n value_step p ≡ answer vs
       → wrong_from f h handles at values n t p k ≡ first_wrong (type_text f h) k fields.item vs.item
   unfolding wrong_from first_wrong
-  again zero m t p k fields vs l e g = ap (λ (x : List Tree). first_wrong (type_text f h) k fields.item x) (sym (none_left value_step p vs g))
+  again zero m t p k fields vs l e g = ap (λ (x : List Tree). first_wrong (type_text f h) k fields.item x) (sym (no_items value_step p vs g))
   again (suc n) zero t p k fields vs l e g = absurd (omega arith)
   again (suc n) (suc m) t p k fields vs l e g =
       let a = split field_step m t fields e in
@@ -353,63 +336,60 @@ module _ (f : List ℕ) (h : Header) (handles at : ℕ) where
       go false v = absurd (never (sym v))
 
 -- ---- the ways through `wrong_under`
-module _ (f : List ℕ) (h : Header) (handles c at values : ℕ) {x : BeginAnswer} (e : begin_outcome x ≡ fields_from f h at) where
-  pub wrong_no_fields : {z : Refusal} → x ≡ B.Refused z → refused z ≡ wrong_under f h handles c at values
+module _ (f : List ℕ) (h : Header) (handles c at values : ℕ) where
+  pub wrong_no_fields : {z : Refusal} → refused z ≡ fields_from f h at → refused z ≡ wrong_under f h handles c at values
   unfolding wrong_under
-  wrong_no_fields t = sym (bind_refused _ (fields_untold f h at (sym (sym (ap begin_outcome t) ∙ e))))
+  wrong_no_fields e = sym (bind_refused _ (fields_untold f h at (sym e)))
 
-  module _ {m p : ℕ} (t : x ≡ B.Got m p) where
+  module _ {m p : ℕ} (e : answer (record { item = m; next = p }) ≡ fields_from f h at) where
     fields_of : FieldsTold f h at m p
-    fields_of = fields_told f h at (sym (sym (ap begin_outcome t) ∙ e))
+    fields_of = fields_told f h at (sym e)
 
-    module _ {y : BeginAnswer} (g : begin_outcome y ≡ values_from f h handles values) where
-      pub wrong_no_values : {z : Refusal} → y ≡ B.Refused z → refused z ≡ wrong_under f h handles c at values
+    pub wrong_no_values : {z : Refusal} → refused z ≡ values_from f h handles values → refused z ≡ wrong_under f h handles c at values
+    unfolding wrong_under
+    wrong_no_values g = sym (bind_answer _ fields_of.read ∙ bind_refused _ (values_untold f h handles values (sym g)))
+
+    module _ {n q : ℕ} (g : answer (record { item = n; next = q }) ≡ values_from f h handles values) where
+      values_of : ValuesTold f h handles values n q
+      values_of = values_told f h handles values (sym g)
+
+      fields_long : length fields_of.fields ≡ m
+      fields_long = collect_length _ m (begin p) _ fields_of.row
+
+      values_long : length values_of.values ≡ n
+      values_long = collect_length _ n q _ values_of.row
+
+      opened : wrong_under f h handles c at values
+          ≡ given (leb (length values_of.values) (length fields_of.fields)) (too_many_values (class_place h c)) (first_wrong (type_text f h) 0 fields_of.fields values_of.values)
       unfolding wrong_under
-      wrong_no_values u = sym (bind_answer _ fields_of.read ∙ bind_refused _ (values_untold f h handles values (sym (sym (ap begin_outcome u) ∙ g))))
+      opened = bind_answer _ fields_of.read ∙ bind_answer _ values_of.read
 
-      module _ {n q : ℕ} (u : y ≡ B.Got n q) where
-        values_of : ValuesTold f h handles values n q
-        values_of = values_told f h handles values (sym (sym (ap begin_outcome u) ∙ g))
+      pub wrong_many : {place : ℕ} {z : Refusal} → m < n → place ≡ class_place h c → z ≡ too_many_values place → refused z ≡ wrong_under f h handles c at values
+      wrong_many less is made =
+          let a = fields_long in
+          let b = values_long in
+          refused_by made ∙ ap (λ (k : ℕ). refused (too_many_values k)) is
+          ∙ sym (opened ∙ sym (fails _ refl (lt-leb (length values_of.values) (length fields_of.fields) (omega arith))))
 
-        fields_long : length fields_of.fields ≡ m
-        fields_long = collect_length _ m (begin p) _ fields_of.row
-
-        values_long : length values_of.values ≡ n
-        values_long = collect_length _ n q _ values_of.row
-
-        opened : wrong_under f h handles c at values
-            ≡ given (leb (length values_of.values) (length fields_of.fields)) (too_many_values (class_place h c)) (first_wrong (type_text f h) 0 fields_of.fields values_of.values)
-        unfolding wrong_under
-        opened = bind_answer _ fields_of.read ∙ bind_answer _ values_of.read
-
-        pub wrong_many : {place : ℕ} {z : Refusal} → m < n → place ≡ class_place h c → z ≡ too_many_values place → refused z ≡ wrong_under f h handles c at values
-        wrong_many less is made =
-            let a = fields_long in
-            let b = values_long in
-            refused_by made ∙ ap (λ (k : ℕ). refused (too_many_values k)) is
-            ∙ sym (opened ∙ sym (fails _ refl (lt-leb (length values_of.values) (length fields_of.fields) (omega arith))))
-
-        pub wrong_again : {o : Outcome (Option WrongKind)} → n ≤ m → o ≡ wrong_from f h handles at values n (begin p) q 0 → o ≡ wrong_under f h handles c at values
-        wrong_again few k =
-            let a = fields_long in
-            let b = values_long in
-            k ∙ again f h handles at values n m (begin p) q 0 _ _ few fields_of.row values_of.row
-            ∙ sym (opened ∙ sym (passes (too_many_values (class_place h c)) (le-leb (length values_of.values) (length fields_of.fields) (omega arith)) refl))
+      pub wrong_again : {o : Outcome (Option WrongKind)} → n ≤ m → o ≡ wrong_from f h handles at values n (begin p) q 0 → o ≡ wrong_under f h handles c at values
+      wrong_again few k =
+          let a = fields_long in
+          let b = values_long in
+          k ∙ again f h handles at values n m (begin p) q 0 _ _ few fields_of.row values_of.row
+          ∙ sym (opened ∙ sym (passes (too_many_values (class_place h c)) (le-leb (length values_of.values) (length fields_of.fields) (omega arith)) refl))
 
 -- ---- the loop of `wrong_from` at its head
 abbrev run_of : ℕ → ℕ → Bool → Run
 run_of p base later = record { place = p; base = base; later = later }
 
-pub record Seeking (f : List ℕ) (h : Header) (handles at values from first count : ℕ) (s : List ℕ) (j : MemberJudge) (p base : ℕ) (later : Bool) (q k left : ℕ) : Type 0 where
+pub record Seeking (f : List ℕ) (h : Header) (handles at values from first count : ℕ) (s : List ℕ) (j : MemberJudge) (p base : ℕ) (later : Bool) (q k : ℕ) : Type 0 where
   section_is : s ≡ up_to_end f h
   judge_is : j ≡ fields_judge (plain_frame h)
-  same : wrong_from f h handles at values count (begin from) first 0 ≡ wrong_from f h handles at values left (run_of p base later) q k
-  sum : k + left ≡ count
-  fits : Fits w32 count
+  same : wrong_from f h handles at values count (begin from) first 0 ≡ wrong_from f h handles at values (count - k) (run_of p base later) q k
 
-pub seeking_first : (f : List ℕ) (h : Header) (handles at values from first count : ℕ) {s : List ℕ} {j : MemberJudge} → s ≡ up_to_end f h → j ≡ fields_judge (plain_frame h) → Fits w32 count
-    → Seeking f h handles at values from first count s j from 0 false first 0 count
-seeking_first f h handles at values from first count e g fits = record { section_is = e; judge_is = g; same = refl; sum = omega arith; fits = fits }
+pub seeking_first : (f : List ℕ) (h : Header) (handles at values from first count : ℕ) {s : List ℕ} {j : MemberJudge} → s ≡ up_to_end f h → j ≡ fields_judge (plain_frame h)
+    → Seeking f h handles at values from first count s j from 0 false first 0
+seeking_first f h handles at values from first count e g = record { section_is = e; judge_is = g; same = ap (λ (n : ℕ). wrong_from f h handles at values n (begin from) first 0) all_left }
 
 wrong_more : (f : List ℕ) (h : Header) (handles at values left : ℕ) (t : Run) (q k : ℕ) → 0 < left → wrong_from f h handles at values left t q k
     ≡ (step_at (up_to_end f h) (fields_judge (plain_frame h)) at t >>= λ (m : Found Member Run). fits_at f h handles values q m.item.index >>= λ (v : Found Bool ℕ).
@@ -418,47 +398,40 @@ unfolding wrong_from
 wrong_more f h handles at values zero t q k l = absurd (omega arith)
 wrong_more f h handles at values (suc left) t q k l = let back : suc left - 1 ≡ left = omega arith in rw back
 
-module _ {f : List ℕ} {h : Header} {handles at values from first count : ℕ} {s : List ℕ} {j : MemberJudge} {p base : ℕ} {later : Bool} {q k left : ℕ}
-    (w : Seeking f h handles at values from first count s j p base later q k left) where
-  pub seeking_small : 0 < left → Fits w32 (k + 1)
-  seeking_small l = let a = w.sum in let b = w.fits.fits in record { fits = omega arith }
-
-  pub seeking_done : left ≤ 0 → answer none ≡ wrong_from f h handles at values count (begin from) first 0
+module _ {f : List ℕ} {h : Header} {handles at values from first count : ℕ} {s : List ℕ} {j : MemberJudge} {p base : ℕ} {later : Bool} {q k : ℕ}
+    (w : Seeking f h handles at values from first count s j p base later q k) where
+  pub seeking_done : count ≤ k → answer none ≡ wrong_from f h handles at values count (begin from) first 0
   unfolding wrong_from
-  seeking_done l = let z : left ≡ 0 = omega arith in sym (w.same ∙ ap (λ (n : ℕ). wrong_from f h handles at values n (run_of p base later) q k) z)
+  seeking_done l = let z : count - k ≡ 0 = omega arith in sym (w.same ∙ ap (λ (n : ℕ). wrong_from f h handles at values n (run_of p base later) q k) z)
 
-  module _ (l : 0 < left) {x : MemberFoundAnswer} (e : found_outcome x ≡ member_at s j at base later p) where
-    pub seeking_stop : {r : Refusal} → x ≡ F.Refused r → refused r ≡ wrong_from f h handles at values count (begin from) first 0
+  module _ (l : k < count) where
+    pub seeking_stop : {r : Refusal} → refused r ≡ member_at s j at base later p → refused r ≡ wrong_from f h handles at values count (begin from) first 0
     unfolding step_at
-    seeking_stop t = sym (w.same ∙ wrong_more f h handles at values left (run_of p base later) q k l ∙ bind_refused _ (bind_refused _ (sym (sym (ap found_outcome t) ∙ e ∙ (λ i. member_at (w.section_is i) (w.judge_is i) at base later p)))))
+    seeking_stop e = sym (w.same ∙ wrong_more f h handles at values (count - k) (run_of p base later) q k (some_left l) ∙ bind_refused _ (bind_refused _ (sym (e ∙ (λ i. member_at (w.section_is i) (w.judge_is i) at base later p)))))
 
-    module _ {m : Member} {n : ℕ} (t : x ≡ F.Got m n) where
-      stepped : wrong_from f h handles at values count (begin from) first 0
-          ≡ (fits_at f h handles values q m.index >>= λ (v : Found Bool ℕ). cond v.item (wrong_from f h handles at values (left - 1) (run_of n m.index true) v.next (k + 1)) (answer (some (record { number = k; field = m.index }))))
+    module _ {m : Member} {n : ℕ} (e : answer (record { item = m; next = n }) ≡ member_at s j at base later p) where
+      abbrev rest : Bool → ℕ → Outcome (Option WrongKind)
+      rest b z = cond b (wrong_from f h handles at values (count - k - 1) (run_of n m.index true) z (k + 1)) (answer (some (record { number = k; field = m.index })))
+
+      stepped : wrong_from f h handles at values count (begin from) first 0 ≡ (fits_at f h handles values q m.index >>= λ (v : Found Bool ℕ). rest v.item v.next)
       unfolding step_at
-      stepped = w.same ∙ wrong_more f h handles at values left (run_of p base later) q k l ∙ bind_answer _ (bind_answer _ (sym (sym (ap found_outcome t) ∙ e ∙ (λ i. member_at (w.section_is i) (w.judge_is i) at base later p))))
+      stepped =
+          w.same ∙ wrong_more f h handles at values (count - k) (run_of p base later) q k (some_left l)
+          ∙ bind_answer _ (bind_answer _ (sym (e ∙ (λ i. member_at (w.section_is i) (w.judge_is i) at base later p))))
 
-      module _ {y : FitsNextAnswer} (g : fits_next_outcome y ≡ fits_at f h handles values q m.index) where
-        pub seeking_fail : {r : Refusal} → y ≡ N.Refused r → refused r ≡ wrong_from f h handles at values count (begin from) first 0
-        seeking_fail u = sym (stepped ∙ bind_refused _ (sym (sym (ap fits_next_outcome u) ∙ g)))
+      pub seeking_fail : {r : Refusal} → refused r ≡ fits_at f h handles values q m.index → refused r ≡ wrong_from f h handles at values count (begin from) first 0
+      seeking_fail g = sym (stepped ∙ bind_refused _ (sym g))
 
-        module _ {b : Bool} {z : ℕ} (u : y ≡ N.Got b z) where
-          fitted : wrong_from f h handles at values count (begin from) first 0
-              ≡ cond b (wrong_from f h handles at values (left - 1) (run_of n m.index true) z (k + 1)) (answer (some (record { number = k; field = m.index })))
-          fitted = stepped ∙ bind_answer _ (sym (sym (ap fits_next_outcome u) ∙ g))
+      module _ {b : Bool} {z : ℕ} (g : answer (record { item = b; next = z }) ≡ fits_at f h handles values q m.index) where
+        pub seeking_found : b ≡ false → answer (some (record { number = k; field = m.index })) ≡ wrong_from f h handles at values count (begin from) first 0
+        seeking_found v = sym (stepped ∙ bind_answer _ (sym g) ∙ ap (λ (i : Bool). rest i z) v)
 
-          pub seeking_found : b ≡ false → answer (some (record { number = k; field = m.index })) ≡ wrong_from f h handles at values count (begin from) first 0
-          seeking_found v =
-              sym (fitted ∙ ap (λ (i : Bool). cond i (wrong_from f h handles at values (left - 1) (run_of n m.index true) z (k + 1)) (answer (some (record { number = k; field = m.index })))) v)
-
-          pub seeking_next : b ≡ true → Seeking f h handles at values from first count s j n m.index true z (k + 1) (left - 1)
-          seeking_next v = record {
-            section_is = w.section_is;
-            judge_is = w.judge_is;
-            same = fitted ∙ ap (λ (i : Bool). cond i (wrong_from f h handles at values (left - 1) (run_of n m.index true) z (k + 1)) (answer (some (record { number = k; field = m.index })))) v;
-            sum = let a = w.sum in omega arith;
-            fits = w.fits;
-          }
+        pub seeking_next : b ≡ true → Seeking f h handles at values from first count s j n m.index true z (k + 1)
+        seeking_next v = record {
+          section_is = w.section_is;
+          judge_is = w.judge_is;
+          same = stepped ∙ bind_answer _ (sym g) ∙ ap (λ (i : Bool). rest i z) v ∙ ap (λ (a : ℕ). wrong_from f h handles at values a (run_of n m.index true) z (k + 1)) (one_less l);
+        }
 
 pub ruleset begin_laws = (calls, tests, rules)
 
@@ -466,12 +439,12 @@ pub ruleset from_laws = (fields_framed, values_walked, calls, tests, rules)
 
 pub ruleset walk_laws = (walk_framed, rules)
 
-pub ruleset kind_laws = (kind_no_head, kind_no_value, kind_got, rules)
+pub ruleset kind_laws = (kind_no_head, kind_no_value, kind_got, handed_on, rules)
 
-pub ruleset fits_laws = (kind_walked, calls, tests, rules)
+pub ruleset fits_laws = (kind_walked, no_kind_walked, calls, tests, rules)
 
-pub ruleset seeking = (seeking_first, seeking_small, seeking_stop, seeking_fail, seeking_found, seeking_next, seeking_done, rules)
+pub ruleset seeking = (seeking_first, seeking_stop, seeking_fail, seeking_found, seeking_next, seeking_done, handed_on, rules)
 
-pub ruleset under_laws = (wrong_no_fields, wrong_no_values, wrong_many, wrong_again, rules)
+pub ruleset under_laws = (wrong_no_fields, wrong_no_values, wrong_many, wrong_again, handed_on, rules)
 
-pub ruleset laws = (class-laws, calls, tests, rules)
+pub ruleset laws = (calls, tests, rules)

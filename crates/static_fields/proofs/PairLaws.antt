@@ -10,12 +10,13 @@ use lib.Dec.{ltb, leb}
 use borrow.Author.Rules.{rules}
 use borrow.Author.Tests.{lt-ltb, le-ltb, le-leb, lt-leb, ltb-true, ltb-false}
 use native.Mathlib.Omega.{arith}
+use Rattle.std.specs.Prelude.{Result, Ok, Err}
 use Rattle.refusal.specs.Refusals.{not_there, too_many_values}
 use Rattle.refusal.specs.declared.Refusal.{Refusal}
 use Rattle.refusal.specs.Outcome.{Outcome, answer, refused, ◌>>=◌, given, present}
 use Rattle.refusal.specs.Rows.{Found}
 use Rattle.refusal.specs.Exact.{At}
-use Rattle.refusal.proofs.Laws.{calls, tests, bind_answer, bind_refused, refused_by, passes, fails, present_there}
+use Rattle.refusal.proofs.Laws.{calls, tests, on_ok, on_err, bind_answer, bind_refused, refused_by, passes, fails, present_there}
 use Rattle.refusal.proofs.Exact.{answers_equal}
 use Rattle.refusal.proofs.Kept.{part_answer, part_refused}
 use Rattle.refusal.proofs.Choose.{get_d_at}
@@ -23,26 +24,17 @@ use Rattle.refusal.proofs.Rows.{bind_assoc}
 use Rattle.frame.specs.declared.Frame.{Frame}
 use Rattle.header.specs.declared.Header.{Header}
 use Rattle.header.specs.Header.{up_to_end, plain_frame}
-use Rattle.class_ids.proofs.Laws.{laws as class-laws}
 use Rattle.class_members.specs.declared.Member.{Member}
 use Rattle.class_members.specs.Members.{nobody}
 use Rattle.class_data.specs.declared.Counts.{Counts}
-use Rattle.class_data.specs.declared.DataAnswer.{DataAnswer}
-use Rattle.class_data.specs.declared.DataAnswer.TheVariants as D
-use Rattle.class_data.specs.declared.MemberAnswer.{MemberAnswer}
 use Rattle.class_data.specs.Data.{ClassData, class_data_at, counts, extent_at, member_of_list}
-use Rattle.class_data.specs.Answers.{data_outcome, member_outcome}
 use Rattle.encoded_value.specs.Tree.{Tree}
 use Rattle.encoded_value.specs.Depth.{deepest}
 use Rattle.encoded_value.specs.Readings.{array_at}
 use Rattle.decoded_value.specs.Shown.{Shown, shown, value_shown}
 use Rattle.decoded_value.specs.declared.Value.{Value}
 use Rattle.value_bodies.specs.Bodies.{pick, array_count, array_value}
-use Rattle.value_bodies.specs.declared.BodySizeAnswer.{BodySizeAnswer}
-use Rattle.value_bodies.specs.declared.BodySizeAnswer.TheVariants as C
-use Rattle.value_bodies.specs.declared.PickedAnswer.{PickedAnswer}
-use Rattle.value_bodies.specs.declared.PickedAnswer.TheVariants as P
-use Rattle.value_bodies.specs.Answers.{count_outcome, picked_outcome}
+use Rattle.value_bodies.specs.Answers.{picked_outcome}
 use Rattle.value_bodies.proofs.Picks.{pick_there, pick_none}
 use Rattle.value_readers.specs.Opening.{walk_in}
 use Rattle.value_readers.specs.Statics.{values_in, static_value_in}
@@ -50,22 +42,25 @@ use Rattle.static_fields.specs.Pairing.{StaticField, with_value, default_of, pai
 use Rattle.static_fields.specs.Stages.{as_some, valued, field_some, pair_of}
 
 -- ---- a value that was found
-module _ (m : Member) (stored : Bool) {x : PickedAnswer} where
-  pub valued_refused : {r : Refusal} → x ≡ P.Refused r → refused r ≡ valued m stored (picked_outcome x)
+module _ (m : Member) (stored : Bool) {x : Result Value Refusal} where
+  pub valued_refused : {r : Refusal} → x ≡ Err r → refused r ≡ valued m stored (picked_outcome x)
   unfolding valued ◌>>=◌
   valued_refused e = rw e
 
-  pub valued_got : {v : Value} → x ≡ P.Got v → answer (some (record { field = m.index; flags = m.flags; stored = stored; value = value_shown v })) ≡ valued m stored (picked_outcome x)
+  pub valued_got : {v : Value} → x ≡ Ok v → answer (some (record { field = m.index; flags = m.flags; stored = stored; value = value_shown v })) ≡ valued m stored (picked_outcome x)
   unfolding valued ◌>>=◌
   valued_got e = rw e
 
-pub valued_by : (m : Member) (stored : Bool) (x : PickedAnswer) {o : Outcome Shown} {y : Outcome (Option StaticField)} → picked_outcome x ≡ o → y ≡ valued m stored (picked_outcome x) → y ≡ valued m stored o
+pub valued_by : (m : Member) (stored : Bool) (x : Result Value Refusal) {o : Outcome Shown} {y : Outcome (Option StaticField)} → picked_outcome x ≡ o → y ≡ valued m stored (picked_outcome x) → y ≡ valued m stored o
 valued_by m stored x e q = q ∙ ap (valued m stored) e
 
 -- ---- a member that was read in the file up to the data section's end, s, against the file's frame, r
-pub member_again : (f : List ℕ) (h : Header) (p list n : ℕ) {s : List ℕ} {r : Frame} {B : Type 0} {y : Outcome B} {x c : MemberAnswer} (k : Member → Outcome B) → s ≡ up_to_end f h → r ≡ plain_frame h
-    → member_outcome x ≡ member_of_list s r p list n → x ≡ c → y ≡ (member_outcome c >>= k) → y ≡ (member_of_list (up_to_end f h) (plain_frame h) p list n >>= k)
-member_again f h p list n k e g q t w = said member_outcome k (q ∙ (λ i. member_of_list (e i) (g i) p list n)) t w
+module _ (f : List ℕ) (h : Header) (p list n : ℕ) {s : List ℕ} {r : Frame} {B : Type 0} (k : Member → Outcome B) (e : s ≡ up_to_end f h) (g : r ≡ plain_frame h) where
+  pub member_again : {a : Member} {y : Outcome B} → answer a ≡ member_of_list s r p list n → y ≡ k a → y ≡ (member_of_list (up_to_end f h) (plain_frame h) p list n >>= k)
+  member_again q w = on_ok k (q ∙ (λ i. member_of_list (e i) (g i) p list n)) w
+
+  pub no_member_again : {z : Refusal} → refused z ≡ member_of_list s r p list n → refused z ≡ (member_of_list (up_to_end f h) (plain_frame h) p list n >>= k)
+  no_member_again q = on_err k (q ∙ (λ i. member_of_list (e i) (g i) p list n))
 
 -- ---- class data and values that were read
 module _ (f : List ℕ) (h : Header) (at : ℕ) where
@@ -121,20 +116,18 @@ pair_is text_of k m vs {n} {o} e q = go (ltb k n) refl ∙ (λ i. cond (ltb k (s
     go false w = refl
 
 -- ---- the ways through `field_some`
-framed_read : (f : List ℕ) (h : Header) (at : ℕ) {s : List ℕ} {r : Frame} (x : DataAnswer) → s ≡ up_to_end f h → r ≡ plain_frame h → data_outcome x ≡ extent_at s r at → data_outcome x ≡ extent_at (up_to_end f h) (plain_frame h) at
-framed_read f h at x e g q = q ∙ (λ i. extent_at (e i) (g i) at)
+module _ (f : List ℕ) (h : Header) (handles c k at values : ℕ) (there : 0 < at) {s : List ℕ} {r : Frame} (e : s ≡ up_to_end f h) (g : r ≡ plain_frame h) where
+  framed_read : {o : Outcome (Found Counts ℕ)} → o ≡ extent_at s r at → o ≡ extent_at (up_to_end f h) (plain_frame h) at
+  framed_read q = q ∙ (λ i. extent_at (e i) (g i) at)
 
-module _ (f : List ℕ) (h : Header) (handles c k at values : ℕ) (there : 0 < at) {s : List ℕ} {r : Frame} {x : DataAnswer}
-    (e : s ≡ up_to_end f h) (g : r ≡ plain_frame h) (q : data_outcome x ≡ extent_at s r at) where
-  pub some_no_data : {z : Refusal} → x ≡ D.Refused z → refused z ≡ field_some f h handles c k at values
+  pub some_no_data : {z : Refusal} → refused z ≡ extent_at s r at → refused z ≡ field_some f h handles c k at values
   unfolding field_some field_under extent_at
-  some_no_data t =
-      sym (bind_refused _ (bind_refused _ (no_fields f h at there (part_refused (λ (d : ClassData). record { item = counts d; next = d.end }) (class_data_at (up_to_end f h) (plain_frame h) at) (sym (sym (ap data_outcome t) ∙ framed_read f h at x e g q))))))
+  some_no_data q = sym (bind_refused _ (bind_refused _ (no_fields f h at there (part_refused (λ (d : ClassData). record { item = counts d; next = d.end }) (class_data_at (up_to_end f h) (plain_frame h) at) (sym (framed_read q))))))
 
-  module _ {cs : Counts} {end : ℕ} (t : x ≡ D.Got cs end) where
+  module _ {cs : Counts} {end : ℕ} (q : answer (record { item = cs; next = end }) ≡ extent_at s r at) where
     found : (d : ClassData) × ((class_data_at (up_to_end f h) (plain_frame h) at ≡ answer d) × (◌≡◌ {A = Found Counts ℕ} (record { item = counts d; next = d.end }) (record { item = cs; next = end })))
     unfolding extent_at
-    found = part_answer (λ (d : ClassData). record { item = counts d; next = d.end }) (class_data_at (up_to_end f h) (plain_frame h) at) (sym (sym (ap data_outcome t) ∙ framed_read f h at x e g q))
+    found = part_answer (λ (d : ClassData). record { item = counts d; next = d.end }) (class_data_at (up_to_end f h) (plain_frame h) at) (sym (framed_read q))
 
     long : length found.0.statics ≡ cs.statics
     long = ap (λ (y : Found Counts ℕ). y.item.statics) found.1.1
@@ -149,42 +142,40 @@ module _ (f : List ℕ) (h : Header) (handles c k at values : ℕ) (there : 0 < 
       picked : pick k found.0.statics ≡ answer (get_or found.0.statics k nobody)
       picked = let n = long in pick_there (get_d_at found.0.statics k nobody (omega arith))
 
-      module _ {y : BodySizeAnswer} (v : count_outcome y ≡ values_in f h handles values) where
-        pub some_no_values : {z : Refusal} → y ≡ C.Refused z → refused z ≡ field_some f h handles c k at values
-        unfolding field_some field_under
-        some_no_values u =
-            sym (bind_refused _ (bind_answer _ (fields_are f h at there found.1.0) ∙ bind_answer _ picked ∙ bind_refused _ (not_stored f h handles values (sym (sym (ap count_outcome u) ∙ v)))))
+      pub some_no_values : {z : Refusal} → refused z ≡ values_in f h handles values → refused z ≡ field_some f h handles c k at values
+      unfolding field_some field_under
+      some_no_values v = sym (bind_refused _ (bind_answer _ (fields_are f h at there found.1.0) ∙ bind_answer _ picked ∙ bind_refused _ (not_stored f h handles values (sym v))))
 
-        module _ {n : ℕ} (u : y ≡ C.Got n) where
-          kept : (vs : List Tree) × ((stored_in f h handles values ≡ answer vs) × ((length vs ≡ n) × ((k : ℕ) → k < n → static_value_in f h handles values k ≡ (pick k vs >>= λ (v : Tree). answer (shown v)))))
-          kept = stored_are f h handles values (sym (sym (ap count_outcome u) ∙ v))
+      module _ {n : ℕ} (v : answer n ≡ values_in f h handles values) where
+        kept : (vs : List Tree) × ((stored_in f h handles values ≡ answer vs) × ((length vs ≡ n) × ((k : ℕ) → k < n → static_value_in f h handles values k ≡ (pick k vs >>= λ (v : Tree). answer (shown v)))))
+        kept = stored_are f h handles values (sym v)
 
-          -- 21, and then the pair
-          opened : field_under f h handles c k at values
-              ≡ given (leb (length kept.0) (length found.0.statics)) (too_many_values (class_place h c)) (paired (type_text f h) k (get_or found.0.statics k nobody) kept.0)
-          unfolding field_under
-          opened = bind_answer _ (fields_are f h at there found.1.0) ∙ bind_answer _ picked ∙ bind_answer _ kept.1.0
+        -- 21, and then the pair
+        opened : field_under f h handles c k at values
+            ≡ given (leb (length kept.0) (length found.0.statics)) (too_many_values (class_place h c)) (paired (type_text f h) k (get_or found.0.statics k nobody) kept.0)
+        unfolding field_under
+        opened = bind_answer _ (fields_are f h at there found.1.0) ∙ bind_answer _ picked ∙ bind_answer _ kept.1.0
 
-          pub some_many : {place : ℕ} {z : Refusal} → cs.statics < n → place ≡ class_place h c → z ≡ too_many_values place → refused z ≡ field_some f h handles c k at values
-          unfolding field_some
-          some_many less is made =
-              let a = long in
-              let b = kept.1.1.0 in
-              sym (bind_refused as_some (opened ∙ sym (fails _ refl (lt-leb (length kept.0) (length found.0.statics) (omega arith)))) ∙ ap (λ (p : ℕ). refused (too_many_values p)) (sym is) ∙ sym (refused_by made))
+        pub some_many : {place : ℕ} {z : Refusal} → cs.statics < n → place ≡ class_place h c → z ≡ too_many_values place → refused z ≡ field_some f h handles c k at values
+        unfolding field_some
+        some_many less is made =
+            let a = long in
+            let b = kept.1.1.0 in
+            sym (bind_refused as_some (opened ∙ sym (fails _ refl (lt-leb (length kept.0) (length found.0.statics) (omega arith)))) ∙ ap (λ (p : ℕ). refused (too_many_values p)) (sym is) ∙ sym (refused_by made))
 
-          again : pair_of f h handles at values k n ≡ (paired (type_text f h) k (get_or found.0.statics k nobody) kept.0 >>= as_some)
-          unfolding pair_of
-          again =
-              let a = long in
-              bind_answer _ (member_is f h at k found.1.0 (omega arith)) ∙ pair_is (type_text f h) k (get_or found.0.statics k nobody) kept.0 kept.1.1.0 (kept.1.1.1 k)
+        again : pair_of f h handles at values k n ≡ (paired (type_text f h) k (get_or found.0.statics k nobody) kept.0 >>= as_some)
+        unfolding pair_of
+        again =
+            let a = long in
+            bind_answer _ (member_is f h at k found.1.0 (omega arith)) ∙ pair_is (type_text f h) k (get_or found.0.statics k nobody) kept.0 kept.1.1.0 (kept.1.1.1 k)
 
-          pub some_pair : {z : Outcome (Option StaticField)} → n ≤ cs.statics → z ≡ pair_of f h handles at values k n → z ≡ field_some f h handles c k at values
-          unfolding field_some
-          some_pair few w =
-              let a = long in
-              let b = kept.1.1.0 in
-              w ∙ again
-              ∙ ap (λ (o : Outcome StaticField). o >>= as_some) (sym (opened ∙ sym (passes (too_many_values (class_place h c)) (le-leb (length kept.0) (length found.0.statics) (omega arith)) refl)))
+        pub some_pair : {z : Outcome (Option StaticField)} → n ≤ cs.statics → z ≡ pair_of f h handles at values k n → z ≡ field_some f h handles c k at values
+        unfolding field_some
+        some_pair few w =
+            let a = long in
+            let b = kept.1.1.0 in
+            w ∙ again
+            ∙ ap (λ (o : Outcome StaticField). o >>= as_some) (sym (opened ∙ sym (passes (too_many_values (class_place h c)) (le-leb (length kept.0) (length found.0.statics) (omega arith)) refl)))
 
 -- ---- a class without class data has none
 pub below_some : (f : List ℕ) (h : Header) (handles c k at values : ℕ) {y : Outcome (Option StaticField)} → 0 < at → y ≡ field_some f h handles c k at values → y ≡ present at (field_under f h handles c k at values)
@@ -193,10 +184,10 @@ below_some f h handles c k at values l e = present_there (field_under f h handle
 
 pub ruleset valued_laws = (valued_refused, valued_got, rules)
 
-pub ruleset pair_laws = (member_again, valued_by, calls, tests, rules)
+pub ruleset pair_laws = (member_again, no_member_again, valued_by, calls, tests, rules)
 
 pub ruleset some_laws = (some_no_data, some_past, some_no_values, some_many, some_pair, calls, rules)
 
 pub ruleset below_laws = (below_some, tests, rules)
 
-pub ruleset laws = (class-laws, calls, tests, rules)
+pub ruleset laws = (calls, tests, rules)

@@ -9,7 +9,7 @@ use borrow.Author.Rules.{rules}
 use native.Mathlib.Omega.{arith}
 use Rattle.refusal.specs.declared.Refusal.{Refusal}
 use Rattle.refusal.specs.Outcome.{Outcome, answer, refused, ◌>>=◌}
-use Rattle.refusal.proofs.Laws.{calls, tests, bind_answer, bind_refused}
+use Rattle.refusal.proofs.Laws.{calls, tests, handed_on, bind_answer, bind_refused}
 use Rattle.refusal.proofs.Exact.{answers_equal, never}
 use Rattle.refusal.proofs.Kept.{part_refused}
 use Rattle.word.specs.Bytes.{part}
@@ -17,12 +17,8 @@ use Rattle.word.proofs.Laws.{part_whole}
 use Rattle.header.specs.declared.Header.{Header}
 use Rattle.header.specs.Header.{up_to_end}
 use Rattle.text.specs.Text.{Text, Extent, extent}
-use Rattle.text.specs.Answers.{text_outcome}
-use Rattle.text.specs.declared.TextAnswer.{TextAnswer}
-use Rattle.text.specs.declared.TextAnswer.TheVariants as T
 use Rattle.string_ids.specs.Strings.{string_of, string_extent}
 use Rattle.string_ids.proofs.Exactly.{string_of_exact}
-use Rattle.ids.proofs.Laws.{laws as record_laws}
 use Rattle.table_readers.proofs.TableLaws.{framed}
 use Rattle.decoded_value.specs.Shown.{Shown}
 use Rattle.static_kinds.specs.Kinds.{default, fits}
@@ -43,46 +39,47 @@ lies_there f h t a q =
     let inside = stands.inside in
     part_whole (up_to_end f h) a.start (length a.bytes) (omega arith) ∙ stands.bytes_there
 
-module _ (f : List ℕ) (h : Header) (n : ℕ) {x : TextAnswer} (e : text_outcome x ≡ type_extent f h n) where
-  text_told : {p m u : ℕ} → x ≡ T.Got p m u → type_text f h n ≡ answer (part (up_to_end f h) p m)
-  unfolding type_text type_extent string_extent extent
-  text_told {p} {m} {u} t =
-      let a = bind_parts (type_string f h n) (string_extent f h) (sym (sym (ap text_outcome t) ∙ e)) in
-      let b = bind_parts (string_of f h a.0) extent a.1.1 in
-      let same = answers_equal b.1.1 in
-      bind_answer _ a.1.0 ∙ bind_answer _ b.1.0
-      ∙ ap answer (sym (lies_there f h a.0 b.0 b.1.0) ∙ (λ i. part (up_to_end f h) (same i).start (same i).length))
-
-  text_untold : {r : Refusal} → x ≡ T.Refused r → type_text f h n ≡ refused r
+module _ (f : List ℕ) (h : Header) (n : ℕ) where
+  text_untold : {r : Refusal} → refused r ≡ type_extent f h n → type_text f h n ≡ refused r
   unfolding type_text type_extent string_extent extent ◌>>=◌
-  text_untold {r} t = go (type_string f h n) (sym (sym (ap text_outcome t) ∙ e))
+  text_untold {r} e = go (type_string f h n) (sym e)
     where
       go : (o : Outcome ℕ) → (o >>= λ (s : ℕ). string_of f h s >>= extent) ≡ refused r → (o >>= λ (s : ℕ). string_of f h s >>= λ (a : Text). answer a.bytes) ≡ refused r
       go (answer s) q = bind_refused _ (part_refused (λ (a : Text). record { start = a.start; length = length a.bytes; units = length a.units }) (string_of f h s) q)
       go (refused z) q = cc
 
-  pub default_untold : {r : Refusal} → x ≡ T.Refused r → refused r ≡ default_of (type_text f h) n
+  pub default_untold : {r : Refusal} → refused r ≡ type_extent f h n → refused r ≡ default_of (type_text f h) n
   unfolding default_of
-  default_untold t = sym (bind_refused _ (text_untold t))
+  default_untold e = sym (bind_refused _ (text_untold e))
 
-  pub fits_untold : (kind : ℕ) {r : Refusal} → x ≡ T.Refused r → refused r ≡ fits_of (type_text f h) n kind
+  pub fits_untold : (kind : ℕ) {r : Refusal} → refused r ≡ type_extent f h n → refused r ≡ fits_of (type_text f h) n kind
   unfolding fits_of
-  fits_untold kind t = sym (bind_refused _ (text_untold t))
+  fits_untold kind e = sym (bind_refused _ (text_untold e))
 
-  module _ {p m u : ℕ} {s y : List ℕ} (t : x ≡ T.Got p m u) (section : s ≡ up_to_end f h) (lies : y ≡ part s p m) where
-    bytes_are : type_text f h n ≡ answer y
-    bytes_are = text_told t ∙ ap answer ((λ i. part (sym section i) p m) ∙ sym lies)
+  module _ {p m u : ℕ} (e : answer (record { start = p; length = m; units = u }) ≡ type_extent f h n) where
+    text_told : type_text f h n ≡ answer (part (up_to_end f h) p m)
+    unfolding type_text type_extent string_extent extent
+    text_told =
+        let a = bind_parts (type_string f h n) (string_extent f h) (sym e) in
+        let b = bind_parts (string_of f h a.0) extent a.1.1 in
+        let same = answers_equal b.1.1 in
+        bind_answer _ a.1.0 ∙ bind_answer _ b.1.0
+        ∙ ap answer (sym (lies_there f h a.0 b.0 b.1.0) ∙ (λ i. part (up_to_end f h) (same i).start (same i).length))
 
-    pub default_told : {v : Shown} → v ≡ default y → answer v ≡ default_of (type_text f h) n
-    unfolding default_of
-    default_told q = ap answer q ∙ sym (bind_answer _ bytes_are)
+    module _ {s y : List ℕ} (section : s ≡ up_to_end f h) (lies : y ≡ part s p m) where
+      bytes_are : type_text f h n ≡ answer y
+      bytes_are = text_told ∙ ap answer ((λ i. part (sym section i) p m) ∙ sym lies)
 
-    pub fits_told : (kind : ℕ) {b : Bool} → b ≡ fits y kind → answer b ≡ fits_of (type_text f h) n kind
-    unfolding fits_of
-    fits_told kind q = ap answer q ∙ sym (bind_answer _ bytes_are)
+      pub default_told : {v : Shown} → v ≡ default y → answer v ≡ default_of (type_text f h) n
+      unfolding default_of
+      default_told q = ap answer q ∙ sym (bind_answer _ bytes_are)
 
-pub ruleset record_texts = (framed, record_laws, calls, tests, rules)
+      pub fits_told : (kind : ℕ) {b : Bool} → b ≡ fits y kind → answer b ≡ fits_of (type_text f h) n kind
+      unfolding fits_of
+      fits_told kind q = ap answer q ∙ sym (bind_answer _ bytes_are)
 
-pub ruleset text_laws = (record_laws, calls, tests, rules)
+pub ruleset record_texts = (framed, calls, tests, rules)
 
-pub ruleset told_laws = (default_untold, fits_untold, default_told, fits_told, rules)
+pub ruleset text_laws = (calls, tests, rules)
+
+pub ruleset told_laws = (default_untold, fits_untold, default_told, fits_told, handed_on, rules)

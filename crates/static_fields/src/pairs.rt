@@ -8,6 +8,7 @@ ghost use Rattle.static_fields.specs.Answers.{maybe_field};
 
 use super::StaticField;
 use class_members::Member;
+use decoded_value::Value;
 use header::Header;
 use refusal::{Read, Refusal};
 

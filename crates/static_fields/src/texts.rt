@@ -7,6 +7,7 @@ ghost use Rattle.static_fields.specs.Pairing.{default_of, fits_of, type_string, 
 ghost use Rattle.static_fields.specs.Stages.{type_extent};
 ghost use Rattle.static_fields.specs.Answers.{fits_outcome};
 
+use decoded_value::Value;
 use header::Header;
 use refusal::Refusal;
 use text::TextPlace;

@@ -2,14 +2,14 @@ use Rattle.static_fields.proofs.KindLaws.{begin_laws as laws}
 use Rattle.static_fields.specs.Stages.{fields_begin}
 use Rattle.static_fields.proofs.kinds.fields_begin.Goals as goal
 
-pub returns-in-Refused : goal.returns-in-Refused
+pub returns-in_err-class_data_at : goal.returns-in_err-class_data_at
 unfolding fields_begin
-returns-in-Refused c = search laws
+returns-in_err-class_data_at c = search laws
 
-pub returns-in-Refused-counts_at : goal.returns-in-Refused-counts_at
+pub returns-in_err-counts : goal.returns-in_err-counts
 unfolding fields_begin
-returns-in-Refused-counts_at c = search laws
+returns-in_err-counts c = search laws
 
-pub returns-in-Got-counts_at : goal.returns-in-Got-counts_at
+pub returns : goal.returns
 unfolding fields_begin
-returns-in-Got-counts_at c = search laws
+returns c = search laws

@@ -2,14 +2,14 @@ use Rattle.static_fields.proofs.KindLaws.{fits_laws as laws}
 use Rattle.static_fields.specs.Stages.{fits_at}
 use Rattle.static_fields.proofs.kinds.fits_at.Goals as goal
 
-pub returns-in-Refused : goal.returns-in-Refused
+pub returns-in_err-kind : goal.returns-in_err-kind
 unfolding fits_at
-returns-in-Refused c = search laws
+returns-in_err-kind c = search laws
 
-pub returns-in-Refused-fits_in : goal.returns-in-Refused-fits_in
+pub returns-in_err-fits : goal.returns-in_err-fits
 unfolding fits_at
-returns-in-Refused-fits_in c = search laws
+returns-in_err-fits c = search laws
 
-pub returns-in-Got-fits_in : goal.returns-in-Got-fits_in
+pub returns : goal.returns
 unfolding fits_at
-returns-in-Got-fits_in c = search laws
+returns c = search laws

@@ -1,11 +1,11 @@
 use Rattle.static_fields.proofs.KindLaws.{kind_laws as laws}
 use Rattle.static_fields.proofs.kinds.kind_at.Goals as goal
 
-pub returns-in-Refused : goal.returns-in-Refused
-returns-in-Refused c = search laws
+pub returns-in_err-head : goal.returns-in_err-head
+returns-in_err-head c = search laws
 
-pub returns-in-Refused-value : goal.returns-in-Refused-value
-returns-in-Refused-value c = search laws
+pub returns-in_err-next : goal.returns-in_err-next
+returns-in_err-next c = search laws
 
-pub returns-in-Next : goal.returns-in-Next
-returns-in-Next c = search laws
+pub returns : goal.returns
+returns c = search laws

@@ -2,14 +2,14 @@ use Rattle.static_fields.proofs.KindLaws.{begin_laws as laws}
 use Rattle.static_fields.specs.Stages.{values_begin}
 use Rattle.static_fields.proofs.kinds.values_begin.Goals as goal
 
-pub returns-in-Refused : goal.returns-in-Refused
+pub returns-in_err-count : goal.returns-in_err-count
 unfolding values_begin
-returns-in-Refused c = search laws
+returns-in_err-count c = search laws
 
-pub returns-in-Refused-uleb : goal.returns-in-Refused-uleb
+pub returns-in_err-next : goal.returns-in_err-next
 unfolding values_begin
-returns-in-Refused-uleb c = search laws
+returns-in_err-next c = search laws
 
-pub returns-in-Got-uleb : goal.returns-in-Got-uleb
+pub returns : goal.returns
 unfolding values_begin
-returns-in-Got-uleb c = search laws
+returns c = search laws

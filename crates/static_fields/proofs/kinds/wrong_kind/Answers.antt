@@ -2,10 +2,10 @@ use Rattle.static_fields.proofs.KindLaws.{laws}
 use Rattle.static_fields.specs.Pairing.{wrong_kind}
 use Rattle.static_fields.proofs.kinds.wrong_kind.Goals as goal
 
-pub returns-in-Refused : goal.returns-in-Refused
+pub returns-in_err-o : goal.returns-in_err-o
 unfolding wrong_kind
-returns-in-Refused c = search laws
+returns-in_err-o c = search laws
 
-pub returns-in-Got : goal.returns-in-Got
+pub returns : goal.returns
 unfolding wrong_kind
-returns-in-Got c = search laws
+returns c = search laws

@@ -4,11 +4,11 @@ use Rattle.static_fields.proofs.kinds.wrong_under.Goals as goal
 pub returns-then-count-fields : goal.returns-then-count-fields
 returns-then-count-fields c = search laws
 
-pub returns-in-Refused : goal.returns-in-Refused
-returns-in-Refused c = search laws
+pub returns-in_err-fields : goal.returns-in_err-fields
+returns-in_err-fields c = search laws
 
-pub returns-in-Refused-values_from : goal.returns-in-Refused-values_from
-returns-in-Refused-values_from c = search laws
+pub returns-in_err-count : goal.returns-in_err-count
+returns-in_err-count c = search laws
 
-pub returns-else-count-fields : goal.returns-else-count-fields
-returns-else-count-fields c = search laws
+pub returns : goal.returns
+returns c = search laws
