@@ -1,3 +1,2 @@
 pub mod SpotLaws
-pub mod MemberLaws
 pub mod Once

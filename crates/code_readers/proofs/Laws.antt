@@ -1,6 +1,6 @@
 -- What the proofs of the readers of code cite.
 -- Assumes nothing.
-use Prim.Native.Nat.{ℕ, zero, suc, ◌+◌, ◌*◌, ◌≤◌}
+use Prim.Native.Nat.{ℕ, zero, suc, ◌+◌, ◌*◌}
 use mathlib.Core.Path.{◌≡◌, refl, ap, sym, ◌∙◌}
 use mathlib.Core.Bool.{Bool, true, false, cond}
 use mathlib.Core.Option.{Option, some}
@@ -20,54 +20,35 @@ use Rattle.frame.specs.declared.Frame.{Frame}
 use Rattle.header.specs.declared.Header.{Header}
 use Rattle.header.specs.Header.{up_to_end, plain_frame}
 use Rattle.handlers.specs.declared.Pair.{Pair}
-use Rattle.code_units.specs.declared.UnitsAnswer.{UnitsAnswer}
 use Rattle.code_units.specs.Units.{units_at, filled, into_at, left_at}
-use Rattle.code_units.specs.Answers.{units_outcome}
 use Rattle.code_item.specs.declared.Outline.{Outline}
-use Rattle.code_item.specs.declared.CodeAnswer.{CodeAnswer}
-use Rattle.code_item.specs.declared.CodeAnswer.TheVariants.{Got, Refused}
-use Rattle.code_item.specs.declared.TryAnswer.{TryAnswer}
-use Rattle.code_item.specs.declared.HandlerAnswer.{HandlerAnswer}
-use Rattle.code_item.specs.declared.PairAnswer.{PairAnswer}
 use Rattle.code_bodies.specs.Rules.{CodeRule}
 use Rattle.code_heads.specs.Heads.{body_size}
-use Rattle.code_bodies.specs.Code.{Code, code_at}
+use Rattle.code_bodies.specs.Code.{Code}
 use Rattle.code_item.specs.Code.{outline, outline_at, Linked, Handed, try_of, covering_of, handler_of, pair_of}
-use Rattle.code_item.specs.Answers.{code_outcome, try_outcome, handler_outcome, pair_outcome}
 use Rattle.code_bodies.proofs.Exactly.{code_exact}
 use Rattle.class_readers.specs.declared.Spot.{Spot}
-use Rattle.class_readers.specs.declared.SpotAnswer.{SpotAnswer}
-use Rattle.class_readers.specs.declared.SpotAnswer.TheVariants as S
-use Rattle.code_readers.specs.declared.MaybeCodeAnswer.{MaybeCodeAnswer}
-use Rattle.class_readers.specs.Spots.{method_spot}
-use Rattle.code_readers.specs.Code.{code_in, units_under, units_over, units_in, units_content, units_into, units_written}
-use Rattle.class_readers.specs.Answers.{spot_outcome}
-use Rattle.code_readers.specs.Answers.{maybe_code}
-use Rattle.class_readers.proofs.SpotLaws.{stays_none, goes_onward, framed}
+use Rattle.code_readers.specs.Code.{code_in, units_under, units_over, units_into, units_written}
+use Rattle.class_readers.proofs.SpotLaws.{stays_none, goes_onward}
 
 -- ---- tries and handlers that were read in the file up to the data section's end, s, against the file's counts, r
-module _ (f : List ℕ) (h : Header) (p : ℕ) {s : List ℕ} {r : Frame} {B : Type 0} {y : Outcome B} where
-  pub try_framed : {x c : TryAnswer} (t : ℕ) (k : Linked → Outcome B) → s ≡ up_to_end f h → r ≡ plain_frame h
-      → try_outcome x ≡ try_of s r p t → x ≡ c → y ≡ (try_outcome c >>= k) → y ≡ (try_of (up_to_end f h) (plain_frame h) p t >>= k)
-  try_framed t = framed try_outcome (λ (l : List ℕ) (x : Frame). try_of l x p t) f h
+module _ (f : List ℕ) (h : Header) (p : ℕ) {s : List ℕ} {r : Frame} (e : s ≡ up_to_end f h) (g : r ≡ plain_frame h) where
+  pub try_framed : (t : ℕ) {y : Outcome Linked} → y ≡ try_of s r p t → y ≡ try_of (up_to_end f h) (plain_frame h) p t
+  try_framed t q = q ∙ (λ i. try_of (e i) (g i) p t)
 
-  pub handler_framed : {x c : HandlerAnswer} (n : ℕ) (k : Handed → Outcome B) → s ≡ up_to_end f h → r ≡ plain_frame h
-      → handler_outcome x ≡ handler_of s r p n → x ≡ c → y ≡ (handler_outcome c >>= k) → y ≡ (handler_of (up_to_end f h) (plain_frame h) p n >>= k)
-  handler_framed n = framed handler_outcome (λ (l : List ℕ) (x : Frame). handler_of l x p n) f h
+  pub cover_framed : (address : ℕ) {y : Outcome (Option ℕ)} → y ≡ covering_of s r p address → y ≡ covering_of (up_to_end f h) (plain_frame h) p address
+  cover_framed address q = q ∙ (λ i. covering_of (e i) (g i) p address)
 
-  pub pair_framed : {x c : PairAnswer} (n m : ℕ) (k : Pair → Outcome B) → s ≡ up_to_end f h → r ≡ plain_frame h
-      → pair_outcome x ≡ pair_of s r p n m → x ≡ c → y ≡ (pair_outcome c >>= k) → y ≡ (pair_of (up_to_end f h) (plain_frame h) p n m >>= k)
-  pair_framed n m = framed pair_outcome (λ (l : List ℕ) (x : Frame). pair_of l x p n m) f h
+  pub handler_framed : (n : ℕ) {y : Outcome Handed} → y ≡ handler_of s r p n → y ≡ handler_of (up_to_end f h) (plain_frame h) p n
+  handler_framed n q = q ∙ (λ i. handler_of (e i) (g i) p n)
 
-pub cover_framed : (f : List ℕ) (h : Header) (p address : ℕ) {s : List ℕ} {r : Frame} {y : Outcome (Option ℕ)} → s ≡ up_to_end f h → r ≡ plain_frame h
-    → y ≡ covering_of s r p address → y ≡ covering_of (up_to_end f h) (plain_frame h) p address
-cover_framed f h p address e g q = q ∙ (λ i. covering_of (e i) (g i) p address)
+  pub pair_framed : (n m : ℕ) {y : Outcome Pair} → y ≡ pair_of s r p n m → y ≡ pair_of (up_to_end f h) (plain_frame h) p n m
+  pair_framed n m q = q ∙ (λ i. pair_of (e i) (g i) p n m)
 
 -- ---- units that were written from there
 module _ (f : List ℕ) (h : Header) (p n : ℕ) {s : List ℕ} (e : s ≡ up_to_end f h) where
-  pub units_framed : {B : Type 0} {y : Outcome B} {x c : UnitsAnswer} (room : ℕ) (k : ℕ → Outcome B)
-      → units_outcome x ≡ into_at (length s) p n room → x ≡ c → y ≡ (units_outcome c >>= k) → y ≡ (into_at (length (up_to_end f h)) p n room >>= k)
-  units_framed room k q t w = said units_outcome k (q ∙ ap (λ (l : List ℕ). into_at (length l) p n room) e) t w
+  pub units_framed : {y : Outcome ℕ} (room : ℕ) → y ≡ into_at (length s) p n room → y ≡ into_at (length (up_to_end f h)) p n room
+  units_framed room q = q ∙ ap (λ (l : List ℕ). into_at (length l) p n room) e
 
   pub left_framed : {l : List ℕ} (o : Endian) (out : List ℕ) → l ≡ left_at o s p n out → l ≡ left_at o (up_to_end f h) p n out
   left_framed o out q = q ∙ ap (λ (x : List ℕ). left_at o x p n out) e
@@ -105,31 +86,31 @@ refusals_equal : {A : Type 0} {a b : Refusal} → ◌≡◌ {A = Outcome A} (ref
 refusals_equal e = cc
 
 -- ---- the units of the code at a place, when its outline was read
-module _ (f : List ℕ) (s : Spot) {l : List ℕ} {g : Frame} {x : CodeAnswer} (e : l ≡ up_to_end f s.header) (t : g ≡ plain_frame s.header) (q : code_outcome x ≡ outline_at l g s.place) where
+module _ (f : List ℕ) (s : Spot) {l : List ℕ} {g : Frame} (e : l ≡ up_to_end f s.header) (t : g ≡ plain_frame s.header) where
   -- what the code's answer was, of the reading of the whole
-  outlined : {c : CodeAnswer} → x ≡ c → code_outcome c ≡ (code_in f s >>= λ (a : Code). answer (outline a))
+  outlined : {y : Outcome Outline} → y ≡ outline_at l g s.place → y ≡ (code_in f s >>= λ (a : Code). answer (outline a))
   unfolding code_in outline_at
-  outlined a = sym (ap code_outcome a) ∙ q ∙ (λ i. outline_at (e i) (t i) s.place)
+  outlined q = q ∙ (λ i. outline_at (e i) (t i) s.place)
 
-  pub units_refused : {r : Refusal} (room : ℕ) → x ≡ Refused r → refused r ≡ units_under f room s
+  pub units_refused : {r : Refusal} (room : ℕ) → refused r ≡ outline_at l g s.place → refused r ≡ units_under f room s
   unfolding units_under ◌>>=◌
-  units_refused {r} room a = go (code_in f s) (outlined a)
+  units_refused {r} room q = go (code_in f s) (outlined q)
     where
       go : (o : Outcome Code) → refused r ≡ (o >>= λ (c : Code). answer (outline c)) → refused r ≡ (o >>= λ (c : Code). given (leb (length c.units) room) no_room (answer (some (length c.units))))
       go (answer c) w = absurd (never w)
       go (refused b) w = ap refused (refusals_equal w)
 
-  pub left_refused : {r : Refusal} (out : List ℕ) → x ≡ Refused r → out ≡ units_over (code_in f s) out
+  pub left_refused : {r : Refusal} (out : List ℕ) → refused r ≡ outline_at l g s.place → out ≡ units_over (code_in f s) out
   unfolding units_over ◌>>=◌
-  left_refused {r} out a = go (code_in f s) (outlined a)
+  left_refused {r} out q = go (code_in f s) (outlined q)
     where
       go : (o : Outcome Code) → refused r ≡ (o >>= λ (c : Code). answer (outline c)) → out ≡ units_over o out
       go (answer c) w = absurd (never w)
       go (refused b) w = refl
 
-  pub units_got : {o : Outline} {y : Outcome (Option ℕ)} (room : ℕ) → x ≡ Got o → y ≡ units_into f s o.head.units room → y ≡ units_under f room s
+  pub units_got : {o : Outline} {y : Outcome (Option ℕ)} (room : ℕ) → answer o ≡ outline_at l g s.place → y ≡ units_into f s o.head.units room → y ≡ units_under f room s
   unfolding units_under units_into code_in ◌>>=◌
-  units_got {o} {y} room a w = w ∙ go (code_in f s) refl (outlined a)
+  units_got {o} {y} room q w = w ∙ go (code_in f s) refl (outlined q)
     where
       go : (z : Outcome Code) → code_in f s ≡ z → answer o ≡ (z >>= λ (c : Code). answer (outline c))
           → units_into f s o.head.units room ≡ (z >>= λ (c : Code). given (leb (length c.units) room) no_room (answer (some (length c.units))))
@@ -138,9 +119,9 @@ module _ (f : List ℕ) (s : Spot) {l : List ℕ} {g : Frame} {x : CodeAnswer} (
           ∙ into_whole (up_to_end f s.header) (plain_frame s.header) s.place c ((code_exact (up_to_end f s.header) (plain_frame s.header) s.place).sound c k) room
       go (refused b) k v = absurd (never (sym v))
 
-  pub left_got : {o : Outline} {y : List ℕ} (out : List ℕ) → x ≡ Got o → y ≡ units_written f s o.head.units out → y ≡ units_over (code_in f s) out
+  pub left_got : {o : Outline} {y : List ℕ} (out : List ℕ) → answer o ≡ outline_at l g s.place → y ≡ units_written f s o.head.units out → y ≡ units_over (code_in f s) out
   unfolding units_over units_written code_in ◌>>=◌
-  left_got {o} {y} out a w = w ∙ go (code_in f s) refl (outlined a)
+  left_got {o} {y} out q w = w ∙ go (code_in f s) refl (outlined q)
     where
       go : (z : Outcome Code) → code_in f s ≡ z → answer o ≡ (z >>= λ (c : Code). answer (outline c)) → units_written f s o.head.units out ≡ units_over z out
       go (answer c) k v =
@@ -148,24 +129,10 @@ module _ (f : List ℕ) (s : Spot) {l : List ℕ} {g : Frame} {x : CodeAnswer} (
           ∙ left_whole (up_to_end f s.header) (plain_frame s.header) s.place c ((code_exact (up_to_end f s.header) (plain_frame s.header) s.place).sound c k) out
       go (refused b) k v = absurd (never (sym v))
 
--- the output, by where the code lies
-module _ (f : List ℕ) (c list k : ℕ) (out : List ℕ) {x : SpotAnswer} (e : spot_outcome x ≡ method_spot f c list k) where
-  pub content_refused : {r : Refusal} → x ≡ S.Refused r → out ≡ units_content f c list k out
-  unfolding units_content units_in
-  content_refused t = ap (λ (o : Outcome (Option Spot)). units_in f o out) (sym (ap spot_outcome t) ∙ e)
-
-  pub content_absent : x ≡ S.Absent → out ≡ units_content f c list k out
-  unfolding units_content units_in
-  content_absent t = ap (λ (o : Outcome (Option Spot)). units_in f o out) (sym (ap spot_outcome t) ∙ e)
-
-  pub content_written : {s : Spot} {l : List ℕ} → x ≡ S.Got s → l ≡ units_over (code_in f s) out → l ≡ units_content f c list k out
-  unfolding units_content units_in
-  content_written t q = q ∙ ap (λ (o : Outcome (Option Spot)). units_in f o out) (sym (ap spot_outcome t) ∙ e)
-
 pub ruleset under_laws = (try_framed, handler_framed, pair_framed, cover_framed, calls, rules)
 
 pub ruleset unit_laws = (units_framed, left_framed, calls, rules)
 
 pub ruleset whole_laws = (units_refused, left_refused, units_got, left_got, calls, rules)
 
-pub ruleset laws = (stays_none, goes_onward, content_refused, content_absent, content_written, calls, rules)
+pub ruleset laws = (stays_none, goes_onward, calls, rules)

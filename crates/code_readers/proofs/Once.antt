@@ -1,10 +1,11 @@
 -- What an answer of the code says, no other answer says: a contract `meaning of the answer ≡ reading` allows one answer.
 -- Assumes nothing.
+use Prim.Native.Nat.{ℕ}
 use mathlib.Core.Path.{◌≡◌, refl}
-use Rattle.refusal.proofs.Kept.{maybe_once}
+use Rattle.refusal.proofs.Kept.{maybe_once, perhaps, perhaps_said}
 use Rattle.handlers.specs.declared.Pair.{Pair}
 use Rattle.code_item.specs.declared.Outline.{Outline}
-use Rattle.code_item.specs.Code.{Linked}
+use Rattle.code_item.specs.Code.{Linked, Handed}
 use Rattle.code_item.specs.Answers.{catch_meant}
 use Rattle.std.specs.Prelude as S
 use Rattle.std.specs.Prelude.{Result}
@@ -20,7 +21,9 @@ pub try_once : (x y : Result (S.Option N.NumberedTry) Refusal) → maybe_try x �
 try_once = maybe_once (λ (x : N.NumberedTry). record { attempt = x.attempt; number = x.number }) (λ (r : Linked). record { attempt = r.attempt; number = r.number }) (λ x. refl)
 
 pub handler_once : (x y : Result (S.Option H.HandlerOutline) Refusal) → maybe_handler x ≡ maybe_handler y → x ≡ y
-handler_once = ?maybe (λ (x : H.HandlerOutline). record { offset = x.offset; pairs = x.pairs; all = catch_meant x.all })
+handler_once = maybe_once (λ (x : H.HandlerOutline). record { offset = x.offset; pairs = x.pairs; all = catch_meant x.all })
+    (λ (h : Handed). record { offset = h.offset; pairs = h.pairs; all = perhaps (λ (a : ℕ). a) h.all })
+    (λ x i. record { offset = x.offset; pairs = x.pairs; all = perhaps_said (λ (a : ℕ). a) (λ (a : ℕ). a) (λ a. refl) x.all i })
 
 pub pair_once : (x y : Result (S.Option Pair) Refusal) → maybe_pair x ≡ maybe_pair y → x ≡ y
 pair_once = maybe_once (λ (p : Pair). p) (λ (p : Pair). p) (λ p. refl)

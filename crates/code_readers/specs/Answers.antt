@@ -1,5 +1,5 @@
 -- What the answers of the code say: where there is no code, none.
-use Rattle.std.proofs.Math.Option.{Option, none}
+use Rattle.std.proofs.Math.Option.{Option}
 use Rattle.refusal.specs.Outcome.{Outcome}
 use Rattle.handlers.specs.declared.Pair.{Pair}
 use Rattle.code_item.specs.declared.Outline.{Outline}

@@ -7,7 +7,8 @@ ghost use Rattle.class_readers.specs.Answers.{maybe_count};
 ghost use Rattle.code_readers.specs.Answers.{maybe_code, maybe_try, maybe_handler, maybe_pair};
 
 use class_readers::Spot;
-use code_item::{HandlerOutline, NumberedTry};
+use code_item::{HandlerOutline, NumberedTry, Outline};
+use handlers::Pair;
 use refusal::Refusal;
 
 fn outline_under(f: &[u8], spot: Spot) -> Result<Option<Outline>, Refusal>
@@ -46,13 +47,13 @@ fn try_under(f: &[u8], spot: Spot, t: u32) -> Result<Option<NumberedTry>, Refusa
     ensures { maybe_try result ≡ try_under f.now t spot }
 {
     let header = spot.header;
-    let NumberedTry { attempt, number } = code_item::try_at(
+    let x = code_item::try_at(
         header::up_to_end(f, header),
         header::plain_frame(header),
         spot.place as usize,
         t,
     )?;
-    Ok(Some(NumberedTry { attempt, number }))
+    Ok(Some(x))
 }
 
 // Try t of it.
@@ -97,13 +98,13 @@ fn handler_under(f: &[u8], spot: Spot, number: u32) -> Result<Option<HandlerOutl
     ensures { maybe_handler result ≡ handler_under f.now number spot }
 {
     let header = spot.header;
-    let HandlerOutline { offset, pairs, all } = code_item::handler_at(
+    let x = code_item::handler_at(
         header::up_to_end(f, header),
         header::plain_frame(header),
         spot.place as usize,
         number,
     )?;
-    Ok(Some(HandlerOutline { offset, pairs, all }))
+    Ok(Some(x))
 }
 
 // A handler of it.

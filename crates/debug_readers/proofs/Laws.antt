@@ -16,25 +16,19 @@ use Rattle.word.specs.Bytes.{stretch, part}
 use Rattle.word.proofs.Laws.{part_whole}
 use Rattle.header.specs.declared.Header.{Header}
 use Rattle.header.specs.Header.{up_to_end}
-use Rattle.debug_info.specs.declared.DebugAnswer.{DebugAnswer}
-use Rattle.debug_info.specs.declared.NameAnswer.{NameAnswer}
 use Rattle.debug_info.specs.Debug.{Debug, debug_at, Extent, extent_at, name_of}
-use Rattle.debug_info.specs.Answers.{debug_outcome, name_outcome}
 use Rattle.debug_info.proofs.Exactly.{debug_exact}
 use Rattle.class_readers.specs.declared.Spot.{Spot}
-use Rattle.debug_readers.specs.declared.MaybeDebugAnswer.{MaybeDebugAnswer}
-use Rattle.debug_readers.specs.declared.MaybeDebugAnswer.TheVariants.{Absent, Got, Refused}
 use Rattle.class_readers.specs.Spots.{onward, debug_spot}
 use Rattle.debug_readers.specs.Debug.{whole_under, debug_whole, extent_under, method_debug, program_of, line_program}
-use Rattle.debug_readers.specs.Answers.{maybe_debug}
 
 -- ---- debug information that was read in the file up to the data section's end, s
-module _ (f : List ℕ) (h : Header) (n p : ℕ) {s : List ℕ} {B : Type 0} {y : Outcome B} (e : s ≡ up_to_end f h) where
-  pub debug_framed : {x c : DebugAnswer} (k : Extent → Outcome B) → debug_outcome x ≡ extent_at s n p → x ≡ c → y ≡ (debug_outcome c >>= k) → y ≡ (extent_at (up_to_end f h) n p >>= k)
-  debug_framed k q t w = said debug_outcome k (q ∙ ap (λ (l : List ℕ). extent_at l n p) e) t w
+module _ (f : List ℕ) (h : Header) (n p : ℕ) {s : List ℕ} (e : s ≡ up_to_end f h) where
+  pub debug_framed : {y : Outcome Extent} → y ≡ extent_at s n p → y ≡ extent_at (up_to_end f h) n p
+  debug_framed q = q ∙ ap (λ (l : List ℕ). extent_at l n p) e
 
-  pub name_framed : {x c : NameAnswer} (m : ℕ) (k : Option ℕ → Outcome B) → name_outcome x ≡ name_of s n p m → x ≡ c → y ≡ (name_outcome c >>= k) → y ≡ (name_of (up_to_end f h) n p m >>= k)
-  name_framed m k q t w = said name_outcome k (q ∙ ap (λ (l : List ℕ). name_of l n p m) e) t w
+  pub name_framed : (m : ℕ) {y : Outcome (Option ℕ)} → y ≡ name_of s n p m → y ≡ name_of (up_to_end f h) n p m
+  name_framed m q = q ∙ ap (λ (l : List ℕ). name_of l n p m) e
 
 -- ---- the line program
 -- a part of the file up to the section's end is a part of the file
@@ -104,33 +98,32 @@ module _ (f : List ℕ) (c list k : ℕ) where
   shown (answer (some e)) = e
   shown (refused r) = record { line = 0; names = 0; start = 0; length = 0 }
 
-  module _ {x : MaybeDebugAnswer} (e : maybe_debug x ≡ method_debug f c list k) where
-    pub program_refused : {r : Refusal} → x ≡ Refused r → [] ≡ line_program f c list k
-    unfolding line_program program_of onward ◌>>=◌
-    program_refused {r} t = go (debug_whole f c list k) (sym (ap maybe_debug t) ∙ e ∙ of_whole)
-      where
-        go : (o : Outcome (Option Debug)) → refused r ≡ (o >>= onward handed) → [] ≡ program_of o
-        go (answer none) w = refl
-        go (answer (some d)) w = absurd (let z : 2 ≡ 1 = ap kind w in omega arith)
-        go (refused q) w = refl
+  pub program_refused : {r : Refusal} → refused r ≡ method_debug f c list k → [] ≡ line_program f c list k
+  unfolding line_program program_of onward ◌>>=◌
+  program_refused {r} e = go (debug_whole f c list k) (e ∙ of_whole)
+    where
+      go : (o : Outcome (Option Debug)) → refused r ≡ (o >>= onward handed) → [] ≡ program_of o
+      go (answer none) w = refl
+      go (answer (some d)) w = absurd (let z : 2 ≡ 1 = ap kind w in omega arith)
+      go (refused q) w = refl
 
-    pub program_absent : x ≡ Absent → [] ≡ line_program f c list k
-    unfolding line_program program_of onward ◌>>=◌
-    program_absent t = go (debug_whole f c list k) (sym (ap maybe_debug t) ∙ e ∙ of_whole)
-      where
-        go : (o : Outcome (Option Debug)) → answer none ≡ (o >>= onward handed) → [] ≡ program_of o
-        go (answer none) w = refl
-        go (answer (some d)) w = absurd (let z : 0 ≡ 1 = ap kind w in omega arith)
-        go (refused q) w = refl
+  pub program_absent : answer none ≡ method_debug f c list k → [] ≡ line_program f c list k
+  unfolding line_program program_of onward ◌>>=◌
+  program_absent e = go (debug_whole f c list k) (e ∙ of_whole)
+    where
+      go : (o : Outcome (Option Debug)) → answer none ≡ (o >>= onward handed) → [] ≡ program_of o
+      go (answer none) w = refl
+      go (answer (some d)) w = absurd (let z : 0 ≡ 1 = ap kind w in omega arith)
+      go (refused q) w = refl
 
-    pub program_some : {l n p m : ℕ} {y : List ℕ} → x ≡ Got l n p m → y ≡ part f p m → y ≡ line_program f c list k
-    unfolding line_program program_of onward ◌>>=◌
-    program_some {l} {n} {p} {m} {y} t q = go (debug_whole f c list k) (whole_lies) (sym (ap maybe_debug t) ∙ e ∙ of_whole)
-      where
-        go : (o : Outcome (Option Debug)) → Lying f o → answer (some (record { line = l; names = n; start = p; length = m })) ≡ (o >>= onward handed) → y ≡ program_of o
-        go (answer none) lies w = absurd (let z : 1 ≡ 0 = ap kind w in omega arith)
-        go (answer (some d)) lies w = q ∙ (λ i. part f (shown (w i)).start (shown (w i)).length) ∙ lies
-        go (refused r) lies w = absurd (let z : 1 ≡ 2 = ap kind w in omega arith)
+  pub program_some : {l n p m : ℕ} {y : List ℕ} → answer (some (record { line = l; names = n; start = p; length = m })) ≡ method_debug f c list k → y ≡ part f p m → y ≡ line_program f c list k
+  unfolding line_program program_of onward ◌>>=◌
+  program_some {l} {n} {p} {m} {y} e q = go (debug_whole f c list k) whole_lies (e ∙ of_whole)
+    where
+      go : (o : Outcome (Option Debug)) → Lying f o → answer (some (record { line = l; names = n; start = p; length = m })) ≡ (o >>= onward handed) → y ≡ program_of o
+      go (answer none) lies w = absurd (let z : 1 ≡ 0 = ap kind w in omega arith)
+      go (answer (some d)) lies w = q ∙ (λ i. part f (shown (w i)).start (shown (w i)).length) ∙ lies
+      go (refused r) lies w = absurd (let z : 1 ≡ 2 = ap kind w in omega arith)
 
 pub ruleset under_laws = (debug_framed, name_framed, calls, rules)
 

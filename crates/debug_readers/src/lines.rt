@@ -12,22 +12,12 @@ fn extent_under(f: &[u8], spot: Spot) -> Result<Option<DebugOutline>, Refusal>
 {
     let header = spot.header;
     let strings = header.strings;
-    let DebugOutline {
-        line,
-        names,
-        start,
-        length,
-    } = debug_info::debug_at(
+    let x = debug_info::debug_at(
         header::up_to_end(f, header),
         strings.count,
         spot.place as usize,
     )?;
-    Ok(Some(DebugOutline {
-        line,
-        names,
-        start,
-        length,
-    }))
+    Ok(Some(x))
 }
 
 // The starting line of the code of method k of a list of class c, how many names, and where the line program lies.
@@ -77,15 +67,6 @@ pub fn line_program(f: &[u8], c: u32, list: u32, k: u32) -> &[u8]
     match debug(f, c, list, k) {
         Err(_) => &f[0..0],
         Ok(None) => &f[0..0],
-        Ok(
-            Some(
-                DebugOutline {
-                    line: _,
-                    names: _,
-                    start,
-                    length,
-                },
-            ),
-        ) => word::bytes_at(f, start, length),
+        Ok(Some(DebugOutline { start, length, .. })) => word::bytes_at(f, start, length),
     }
 }

@@ -2,14 +2,14 @@ use Rattle.class_readers.proofs.SpotLaws.{laws}
 use Rattle.code_readers.specs.Code.{covering_try}
 use Rattle.code_readers.proofs.methods.covering_try.Goals as goal
 
-pub returns-in-Refused : goal.returns-in-Refused
+pub returns-in_err-spot : goal.returns-in_err-spot
 unfolding covering_try
-returns-in-Refused c = search laws
+returns-in_err-spot c = search laws
 
-pub returns-in-Absent : goal.returns-in-Absent
+pub returns-in_default : goal.returns-in_default
 unfolding covering_try
-returns-in-Absent c = search laws
+returns-in_default c = search laws
 
-pub returns-in-Got : goal.returns-in-Got
+pub returns : goal.returns
 unfolding covering_try
-returns-in-Got c = search laws
+returns c = search laws

@@ -2,14 +2,14 @@ use Rattle.class_readers.proofs.SpotLaws.{laws}
 use Rattle.code_readers.specs.Code.{handler_number}
 use Rattle.code_readers.proofs.methods.handler.Goals as goal
 
-pub returns-in-Refused : goal.returns-in-Refused
+pub returns-in_err-spot : goal.returns-in_err-spot
 unfolding handler_number
-returns-in-Refused c = search laws
+returns-in_err-spot c = search laws
 
-pub returns-in-Absent : goal.returns-in-Absent
+pub returns-in_default : goal.returns-in_default
 unfolding handler_number
-returns-in-Absent c = search laws
+returns-in_default c = search laws
 
-pub returns-in-Got : goal.returns-in-Got
+pub returns : goal.returns
 unfolding handler_number
-returns-in-Got c = search laws
+returns c = search laws

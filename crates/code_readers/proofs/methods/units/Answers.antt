@@ -1,27 +1,27 @@
 use Rattle.code_readers.proofs.Laws.{laws}
-use Rattle.code_readers.specs.Code.{method_units}
+use Rattle.code_readers.specs.Code.{method_units, units_content, units_in}
 use Rattle.code_readers.proofs.methods.units.Goals as goal
 
-pub returns-in-Refused-clause-answer : goal.returns-in-Refused-clause-answer
+pub returns-in_err-spot-clause-answer : goal.returns-in_err-spot-clause-answer
 unfolding method_units
-returns-in-Refused-clause-answer c = search laws
+returns-in_err-spot-clause-answer c = search laws
 
-pub returns-in-Refused-clause-content : goal.returns-in-Refused-clause-content
-unfolding method_units
-returns-in-Refused-clause-content c = search laws
+pub returns-in_err-spot-clause-content : goal.returns-in_err-spot-clause-content
+unfolding units_content units_in
+returns-in_err-spot-clause-content c = search laws
 
-pub returns-in-Absent-clause-answer : goal.returns-in-Absent-clause-answer
+pub returns-in_default-clause-answer : goal.returns-in_default-clause-answer
 unfolding method_units
-returns-in-Absent-clause-answer c = search laws
+returns-in_default-clause-answer c = search laws
 
-pub returns-in-Absent-clause-content : goal.returns-in-Absent-clause-content
-unfolding method_units
-returns-in-Absent-clause-content c = search laws
+pub returns-in_default-clause-content : goal.returns-in_default-clause-content
+unfolding units_content units_in
+returns-in_default-clause-content c = search laws
 
-pub returns-in-Got-clause-answer : goal.returns-in-Got-clause-answer
+pub returns-clause-answer : goal.returns-clause-answer
 unfolding method_units
-returns-in-Got-clause-answer c = search laws
+returns-clause-answer c = search laws
 
-pub returns-in-Got-clause-content : goal.returns-in-Got-clause-content
-unfolding method_units
-returns-in-Got-clause-content c = search laws
+pub returns-clause-content : goal.returns-clause-content
+unfolding units_content units_in
+returns-clause-content c = search laws
