@@ -1,6 +1,6 @@
 -- The readings find exactly what the rules allow.
 -- Assumes nothing.
-use Prim.Native.Nat.{ℕ, zero, suc, ◌+◌, ◌≤◌, ◌<◌}
+use Prim.Native.Nat.{ℕ, zero, suc, ◌+◌, ◌<◌}
 use mathlib.Core.Path.{◌≡◌, refl, ap, sym, subst, ◌∙◌}
 use mathlib.Core.Logic.{◌⊎◌, inl, inr}
 use mathlib.Core.Bool.{Bool, true, false, cond, false≢true}
@@ -9,20 +9,18 @@ use mathlib.Core.List.{List, [], ◌∷◌}
 use lib.ListN.{length}
 use native.Mathlib.Omega.{arith}
 use Rattle.refusal.specs.Refusals.{not_there, too_many_values}
-use Rattle.refusal.specs.Outcome.{Outcome, answer, ◌>>=◌}
+use Rattle.refusal.specs.Outcome.{answer}
 use Rattle.refusal.specs.Rows.{Found}
-use Rattle.refusal.specs.Exact.{Exact, Decides, Present, At, here, there}
+use Rattle.refusal.specs.Exact.{Exact, Decides, At, here, there}
 use Rattle.refusal.proofs.Exact.{never, answers_equal, same, below, at_most, answer_exact, given_exact, bind_exact, either_exact, exact_iff, present_exact}
 use Rattle.refusal.proofs.Each.{at_below}
 use Rattle.header.specs.declared.Header.{Header}
 use Rattle.header.specs.Header.{up_to_end, plain_frame}
 use Rattle.header.proofs.Exactly.{header_exact}
 use Rattle.map_list.specs.declared.MapList.{MapList}
-use Rattle.map_list.specs.Map.{Map, map_at, kept_at}
+use Rattle.map_list.specs.Map.{kept_at}
 use Rattle.map_list.proofs.Exactly.{map_exact}
-use Rattle.text.specs.Text.{Text}
 use Rattle.string_ids.proofs.Exactly.{string_of_exact}
-use Rattle.ids.specs.declared.MemberId.{MemberId}
 use Rattle.ids.proofs.Exactly.{type_exact, member_exact}
 use Rattle.class_ids.specs.declared.Class.{Class}
 use Rattle.class_ids.proofs.Exactly.{class_exact}
@@ -37,13 +35,12 @@ use Rattle.decoded_value.specs.Shown.{Shown, shown}
 use Rattle.value_bodies.specs.Bodies.{pick}
 use Rattle.value_bodies.proofs.Picks.{pick_there}
 use Rattle.static_kinds.specs.Kinds.{default, fits}
-use Rattle.static_kinds.specs.Rules.{Takes, Unset}
+use Rattle.static_kinds.specs.Rules.{Takes}
 use Rattle.static_kinds.proofs.Exactly.{fits_decides, default_exact}
-use Rattle.table_readers.specs.declared.Opened.{Opened}
 use Rattle.table_readers.specs.Head.{mapped_at, opened_at}
 use Rattle.table_readers.specs.Tables.{class_in}
 use Rattle.value_readers.specs.Opening.{walk_in}
-use Rattle.static_fields.specs.Pairing.{StaticField, WrongKind, with_value, default_of, fits_of, paired, first_wrong, class_place, type_string, type_text, fields_in, stored_in, field_under, wrong_under, field_in, static_field, wrong_in, wrong_kind}
+use Rattle.static_fields.specs.Pairing.{StaticField, WrongKind, default_of, fits_of, paired, first_wrong, class_place, type_string, type_text, fields_in, stored_in, field_under, wrong_under, field_in, static_field, wrong_in, wrong_kind}
 use Rattle.static_fields.specs.Rules.{OpenedRule, ClassIs, TypeTextRule, FieldsRule, no_data, of_data, StoredRule, no_list, a_list, ValueOf, is_stored, by_default, PairRule, FitsField, MissesField, FirstWrong, first_at, all_fit, FirstWrongRule, StaticFieldRule, WrongKindRule}
 
 -- ---- the way to a class

@@ -1,7 +1,7 @@
 -- What the proofs of the functions of kinds.rt cite: what is gone over a second time, fields and values side by side, is what was read.
 -- Assumes nothing.
 use Prim.Native.Nat.{ℕ, zero, suc, ◌+◌, ◌-◌, ◌%◌, ◌/◌, ◌<◌, ◌≤◌}
-use mathlib.Core.Path.{◌≡◌, refl, ap, sym, subst, ◌∙◌}
+use mathlib.Core.Path.{◌≡◌, refl, ap, sym, ◌∙◌}
 use mathlib.Core.Bool.{Bool, true, false, cond}
 use mathlib.Core.Option.{Option, none, some}
 use mathlib.Core.List.{List, [], ◌∷◌}
@@ -9,38 +9,37 @@ use lib.ListN.{length}
 use lib.Dec.{ltb, leb, eqb}
 use lib.IntN.{ℤ}
 use borrow.Author.Rules.{rules}
-use borrow.Author.Tests.{lt-ltb, le-ltb, le-leb, lt-leb, eqb-true}
+use borrow.Author.Tests.{le-leb, lt-leb, eqb-true}
 use native.Mathlib.Omega.{arith}
 use Rattle.refusal.specs.Refusals.{too_many_values}
 use Rattle.refusal.specs.declared.Refusal.{Refusal}
 use Rattle.refusal.specs.Outcome.{Outcome, answer, refused, ◌>>=◌, given}
-use Rattle.refusal.specs.Rows.{Found, past, in_front, collect}
+use Rattle.refusal.specs.Rows.{Found, in_front, collect}
 use Rattle.refusal.proofs.Laws.{calls, tests, handed_on, on_ok, on_err, bind_answer, bind_refused, refused_by, passes, fails, one_less, some_left, all_left}
 use Rattle.refusal.proofs.Exact.{answers_equal, never}
 use Rattle.refusal.proofs.Rows.{past_answer, past_refused, bind_assoc, collect_exact}
-use Rattle.refusal.proofs.Kept.{part_answer, part_refused}
+use Rattle.refusal.proofs.Kept.{part_answer}
 use Rattle.refusal.proofs.Choose.{row_length, collect_length}
 use Rattle.leb128.specs.Leb.{uleb_at}
 use Rattle.leb128.proofs.Exactly.{uleb_exact}
 use Rattle.frame.specs.declared.Frame.{Frame}
 use Rattle.header.specs.declared.Header.{Header}
-use Rattle.header.specs.Header.{up_to_end, plain_frame, frame_of}
+use Rattle.header.specs.Header.{up_to_end, plain_frame}
 use Rattle.class_members.specs.declared.Member.{Member}
 use Rattle.class_members.specs.declared.MemberJudge.{MemberJudge}
 use Rattle.class_members.specs.Members.{member_at, Run, step_at, begin, members_at}
 use Rattle.class_data.specs.declared.Counts.{Counts}
 use Rattle.class_data.specs.Data.{Two, two_at, fields_judge, methods_judge, ClassData, class_data_at, counts, extent_at, counts_at}
 use Rattle.value_heads.specs.declared.Walk.{Walk}
-use Rattle.value_heads.specs.Kinds.{walk_of}
 use Rattle.value_heads.specs.Numbers.{signed, raised}
 use Rattle.value_heads.specs.Readings.{head_byte_at, checked_at}
 use Rattle.encoded_value.specs.Tree.{Tree, byte, short, char, int, long, float, double, index, null, boolean, array, annotation, plain_of, rest_of, trees, elements_of, Annotation}
 use Rattle.encoded_value.specs.Depth.{deepest, deepest_value}
-use Rattle.encoded_value.specs.Readings.{as_array, as_annotation, plain_at, kind_with, array_with, value_at, array_at, annotation_at, past_value}
+use Rattle.encoded_value.specs.Readings.{as_array, as_annotation, plain_at, kind_with, value_at, array_at, annotation_at, past_value}
 use Rattle.encoded_value.proofs.Layers.{ArrayWithin, array_parts}
 use Rattle.encoded_value.proofs.Exactly.{value_exact, array_exact}
 use Rattle.encoded_value.proofs.Cycle.{no_value, value_kind}
-use Rattle.decoded_value.specs.Shown.{Shown, shown}
+use Rattle.decoded_value.specs.Shown.{shown}
 use Rattle.value_bodies.specs.Bodies.{array_count}
 use Rattle.value_readers.specs.Opening.{walk_in}
 use Rattle.value_readers.proofs.Laws.{walk_framed}

@@ -1,21 +1,19 @@
 -- What the proofs of the functions of pairs.rt cite: class data and values that were read whole are read once more.
 -- Assumes nothing.
-use Prim.Native.Nat.{ℕ, zero, suc, ◌+◌, ◌<◌, ◌≤◌}
-use mathlib.Core.Path.{◌≡◌, refl, ap, sym, subst, ◌∙◌}
+use Prim.Native.Nat.{ℕ, ◌<◌, ◌≤◌}
+use mathlib.Core.Path.{◌≡◌, refl, ap, sym, ◌∙◌}
 use mathlib.Core.Bool.{Bool, true, false, cond}
-use mathlib.Core.Option.{Option, none, some}
+use mathlib.Core.Option.{Option, some}
 use mathlib.Core.List.{List, []}
 use lib.ListN.{length, get_or}
 use lib.Dec.{ltb, leb}
 use borrow.Author.Rules.{rules}
-use borrow.Author.Tests.{lt-ltb, le-ltb, le-leb, lt-leb, ltb-true, ltb-false}
+use borrow.Author.Tests.{lt-ltb, le-leb, lt-leb, ltb-true}
 use native.Mathlib.Omega.{arith}
-use Rattle.std.specs.Prelude.{Result, Ok, Err}
 use Rattle.refusal.specs.Refusals.{not_there, too_many_values}
 use Rattle.refusal.specs.declared.Refusal.{Refusal}
 use Rattle.refusal.specs.Outcome.{Outcome, answer, refused, ◌>>=◌, given, present}
 use Rattle.refusal.specs.Rows.{Found}
-use Rattle.refusal.specs.Exact.{At}
 use Rattle.refusal.proofs.Laws.{calls, tests, on_ok, on_err, bind_answer, bind_refused, refused_by, passes, fails, present_there}
 use Rattle.refusal.proofs.Exact.{answers_equal}
 use Rattle.refusal.proofs.Kept.{part_answer, part_refused}
@@ -31,28 +29,23 @@ use Rattle.class_data.specs.Data.{ClassData, class_data_at, counts, extent_at, m
 use Rattle.encoded_value.specs.Tree.{Tree}
 use Rattle.encoded_value.specs.Depth.{deepest}
 use Rattle.encoded_value.specs.Readings.{array_at}
-use Rattle.decoded_value.specs.Shown.{Shown, shown, value_shown}
-use Rattle.decoded_value.specs.declared.Value.{Value}
+use Rattle.decoded_value.specs.Shown.{Shown, shown}
 use Rattle.value_bodies.specs.Bodies.{pick, array_count, array_value}
-use Rattle.value_bodies.specs.Answers.{picked_outcome}
 use Rattle.value_bodies.proofs.Picks.{pick_there, pick_none}
 use Rattle.value_readers.specs.Opening.{walk_in}
 use Rattle.value_readers.specs.Statics.{values_in, static_value_in}
-use Rattle.static_fields.specs.Pairing.{StaticField, with_value, default_of, paired, class_place, type_text, fields_in, stored_in, field_under, field_in}
+use Rattle.static_fields.specs.Pairing.{StaticField, with_value, default_of, paired, class_place, type_text, fields_in, stored_in, field_under}
 use Rattle.static_fields.specs.Stages.{as_some, valued, field_some, pair_of}
 
--- ---- a value that was found
-module _ (m : Member) (stored : Bool) {x : Result Value Refusal} where
-  pub valued_refused : {r : Refusal} → x ≡ Err r → refused r ≡ valued m stored (picked_outcome x)
-  unfolding valued ◌>>=◌
-  valued_refused e = rw e
+-- ---- a value that was found, as field m's
+pub valued_refused : (m : Member) (stored : Bool) {o : Outcome Shown} {r : Refusal} → refused r ≡ o → refused r ≡ valued m stored o
+unfolding valued
+valued_refused m stored e = on_err as_some (on_err (with_value m stored) e)
 
-  pub valued_got : {v : Value} → x ≡ Ok v → answer (some (record { field = m.index; flags = m.flags; stored = stored; value = value_shown v })) ≡ valued m stored (picked_outcome x)
-  unfolding valued ◌>>=◌
-  valued_got e = rw e
-
-pub valued_by : (m : Member) (stored : Bool) (x : Result Value Refusal) {o : Outcome Shown} {y : Outcome (Option StaticField)} → picked_outcome x ≡ o → y ≡ valued m stored (picked_outcome x) → y ≡ valued m stored o
-valued_by m stored x e q = q ∙ ap (valued m stored) e
+pub valued_got : (m : Member) {stored told : Bool} {o : Outcome Shown} {v : Shown} → told ≡ stored → answer v ≡ o
+    → answer (some (record { field = m.index; flags = m.flags; stored = told; value = v })) ≡ valued m stored o
+unfolding valued
+valued_got m {stored} {v = v} t e = on_ok as_some (on_ok (with_value m stored) e refl) (λ i. answer (some (record { field = m.index; flags = m.flags; stored = t i; value = v })))
 
 -- ---- a member that was read in the file up to the data section's end, s, against the file's frame, r
 module _ (f : List ℕ) (h : Header) (p list n : ℕ) {s : List ℕ} {r : Frame} {B : Type 0} (k : Member → Outcome B) (e : s ≡ up_to_end f h) (g : r ≡ plain_frame h) where
@@ -182,9 +175,7 @@ pub below_some : (f : List ℕ) (h : Header) (handles c k at values : ℕ) {y : 
 unfolding field_some
 below_some f h handles c k at values l e = present_there (field_under f h handles c k at values) l e
 
-pub ruleset valued_laws = (valued_refused, valued_got, rules)
-
-pub ruleset pair_laws = (member_again, no_member_again, valued_by, calls, tests, rules)
+pub ruleset pair_laws = (member_again, no_member_again, valued_refused, valued_got, calls, tests, rules)
 
 pub ruleset some_laws = (some_no_data, some_past, some_no_values, some_many, some_pair, calls, rules)
 

@@ -1,6 +1,6 @@
 -- What the proofs of the functions of texts.rt cite: the text of a field's type, by where it lies.
 -- Assumes nothing.
-use Prim.Native.Nat.{ℕ, ◌+◌, ◌≤◌}
+use Prim.Native.Nat.{ℕ}
 use mathlib.Core.Path.{◌≡◌, refl, ap, sym, ◌∙◌}
 use mathlib.Core.Bool.{Bool}
 use mathlib.Core.List.{List}
@@ -16,7 +16,7 @@ use Rattle.word.specs.Bytes.{part}
 use Rattle.word.proofs.Laws.{part_whole}
 use Rattle.header.specs.declared.Header.{Header}
 use Rattle.header.specs.Header.{up_to_end}
-use Rattle.text.specs.Text.{Text, Extent, extent}
+use Rattle.text.specs.Text.{Text, extent}
 use Rattle.string_ids.specs.Strings.{string_of, string_extent}
 use Rattle.string_ids.proofs.Exactly.{string_of_exact}
 use Rattle.table_readers.proofs.TableLaws.{framed}

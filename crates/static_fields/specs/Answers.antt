@@ -1,6 +1,6 @@
 -- What the answers of the code say: an absent item is none.
 use Rattle.std.specs.Prelude.{ℕ, Bool, Result}
-use Rattle.std.proofs.Math.Option.{Option, none}
+use Rattle.std.proofs.Math.Option.{Option}
 use Rattle.refusal.specs.Outcome.{Outcome}
 use Rattle.refusal.specs.Rows.{Found}
 use Rattle.decoded_value.specs.Shown.{Shown, value_shown}

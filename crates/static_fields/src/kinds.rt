@@ -140,17 +140,16 @@ fn wrong_from(
             value: fits,
             next: after,
         } = fits_at(f, header, handles, values, q, member.index)?;
-        if fits {
-            base = member.index;
-            p = next;
-            q = after;
-        } else {
+        if !fits {
             return Ok(Some(WrongKind {
                 k,
                 field: member.index,
             }));
         }
+        base = member.index;
         later = true;
+        p = next;
+        q = after;
     }
     Ok(None)
 }

@@ -1,14 +1,11 @@
 // A static field with its value.
 ghost use Rattle.std.specs.Prelude.{◌≡◌, ◌<◌};
 ghost use Rattle.refusal.specs.Outcome.{present};
-ghost use Rattle.value_bodies.specs.Answers.{picked_outcome};
 ghost use Rattle.static_fields.specs.Pairing.{class_place, field_under, field_in, static_field};
-ghost use Rattle.static_fields.specs.Stages.{valued, pair_of, field_some};
+ghost use Rattle.static_fields.specs.Stages.{pair_of, field_some};
 ghost use Rattle.static_fields.specs.Answers.{maybe_field};
 
 use super::StaticField;
-use class_members::Member;
-use decoded_value::Value;
 use header::Header;
 use refusal::{Read, Refusal};
 
@@ -18,23 +15,6 @@ pub fn class_place(header: Header, c: u32) -> usize
 {
     let classes = header.classes;
     classes.offset as usize + 32 * c as usize
-}
-
-// A value that was found, as field m's.
-fn valued_as(
-    m: Member,
-    stored: bool,
-    found: Result<Value, Refusal>,
-) -> Result<Option<StaticField>, Refusal>
-    ensures { maybe_field result ≡ valued m stored (picked_outcome found) }
-{
-    let value = found?;
-    Ok(Some(StaticField {
-        field: m.index,
-        flags: m.flags,
-        stored,
-        value,
-    }))
 }
 
 // Static field k where so many values are stored: value k, or past the list what the text of the field's type calls for.
@@ -52,12 +32,18 @@ fn pair_of(
     let s = header::up_to_end(f, header);
     let frame = header::plain_frame(header);
     let m = class_data::member_at(s, frame, data as usize, 0, k)?;
-    if k < count {
-        let found = value_readers::value_in(f, header, handles, values, k);
-        return valued_as(m, true, found);
-    }
-    let unset = super::texts::default_in(f, header, m.index);
-    valued_as(m, false, unset)
+    let stored = k < count;
+    let value = if stored {
+        value_readers::value_in(f, header, handles, values, k)?
+    } else {
+        super::texts::default_in(f, header, m.index)?
+    };
+    Ok(Some(StaticField {
+        field: m.index,
+        flags: m.flags,
+        stored,
+        value,
+    }))
 }
 
 // Class data whole, 7 for the field, static values whole, 21, and then the pair.

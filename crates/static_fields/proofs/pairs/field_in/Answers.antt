@@ -2,10 +2,10 @@ use Rattle.static_fields.proofs.PairLaws.{laws}
 use Rattle.static_fields.specs.Pairing.{field_in}
 use Rattle.static_fields.proofs.pairs.field_in.Goals as goal
 
-pub returns-in-Refused : goal.returns-in-Refused
+pub returns-in_err-found : goal.returns-in_err-found
 unfolding field_in
-returns-in-Refused c = search laws
+returns-in_err-found c = search laws
 
-pub returns-in-Got : goal.returns-in-Got
+pub returns : goal.returns
 unfolding field_in
-returns-in-Got c = search laws
+returns c = search laws

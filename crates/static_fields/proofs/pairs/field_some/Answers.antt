@@ -7,11 +7,11 @@ returns-then-fields-k c = search laws
 pub returns-then-count-fields : goal.returns-then-count-fields
 returns-then-count-fields c = search laws
 
-pub returns-in-Refused : goal.returns-in-Refused
-returns-in-Refused c = search laws
+pub returns-in_err-counts : goal.returns-in_err-counts
+returns-in_err-counts c = search laws
 
-pub returns-in-Refused-values_in : goal.returns-in-Refused-values_in
-returns-in-Refused-values_in c = search laws
+pub returns-in_err-count : goal.returns-in_err-count
+returns-in_err-count c = search laws
 
-pub returns-else-count-fields : goal.returns-else-count-fields
-returns-else-count-fields c = search laws
+pub returns : goal.returns
+returns c = search laws

@@ -2,10 +2,10 @@ use Rattle.static_fields.proofs.PairLaws.{laws}
 use Rattle.static_fields.specs.Pairing.{static_field}
 use Rattle.static_fields.proofs.pairs.static_field.Goals as goal
 
-pub returns-in-Refused : goal.returns-in-Refused
+pub returns-in_err-o : goal.returns-in_err-o
 unfolding static_field
-returns-in-Refused c = search laws
+returns-in_err-o c = search laws
 
-pub returns-in-Got : goal.returns-in-Got
+pub returns : goal.returns
 unfolding static_field
-returns-in-Got c = search laws
+returns c = search laws
