@@ -205,7 +205,7 @@ fn array_at(s: &[u8], w: Walk, at: usize, left: u32) -> Result<Read<Value>, Refu
     })
 }
 
-// The same for a nested annotation.
+// The same for a nested annotation. Not one function with a flag: it would be asked twice, for the callee and for the kind.
 fn annotation_at(s: &[u8], w: Walk, at: usize, left: u32) -> Result<Read<Value>, Refusal>
     requires { at < length s.now }
     ensures { decoded_outcome result ≡ decoded_annotation s.now w left (at + 1) }

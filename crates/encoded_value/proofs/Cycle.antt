@@ -105,9 +105,13 @@ module _ (s : List ℕ) (w : Walk) where
   unfolding named_with
   named_is left p = bind_assoc (index_at s w.item w.strings p) _ past ∙ ap (λ (k : Found ℕ ℕ → Outcome ℕ). index_at s w.item w.strings p >>= k) (λ i n. sym (past_made {B = Named} (λ (v : Found Tree ℕ). record { name = n.item; value = v.item }) (value_at s w left n.next)) i)
 
-  inner_named : (left p : ℕ) → past_named s w left p ≡ past_inner s w true left p
+  pub inner_named : (left p : ℕ) → past_named s w left p ≡ past_inner s w true left p
   unfolding past_inner index_past ◌>>=◌
   inner_named left p = named_is left p ∙ sym (bind_assoc (index_at s w.item w.strings p) past _)
+
+  pub inner_plain : (left p : ℕ) → past_value s w left p ≡ past_inner s w false left p
+  unfolding past_inner index_past ◌>>=◌
+  inner_plain left p = refl
 
   module _ (left p : ℕ) (l : 0 < left) where
     array_is : past_array s w left p ≡ (uleb_at s w.item p >>= λ (n : Found ℕ ℕ). repeat n.item (past_value s w (left - 1)) n.next)

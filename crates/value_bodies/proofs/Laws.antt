@@ -1,7 +1,8 @@
 -- What the functions' proofs cite: a body that was gone over whole has its size, and each of its values can be reached.
 -- Assumes nothing.
-use Prim.Native.Nat.{ℕ, ◌+◌, ◌<◌, ◌≤◌}
+use Prim.Native.Nat.{ℕ, ◌<◌, ◌≤◌}
 use mathlib.Core.Path.{◌≡◌, ap, sym, subst, ◌∙◌}
+use mathlib.Core.Bool.{Bool, true, false}
 use mathlib.Core.List.{List}
 use lib.ListN.{length}
 use native.Mathlib.Omega.{arith}
@@ -18,15 +19,16 @@ use Rattle.leb128.proofs.Exactly.{uleb_exact}
 use Rattle.value_heads.specs.declared.Walk.{Walk}
 use Rattle.encoded_value.specs.Tree.{Tree, Named, Annotation}
 use Rattle.value_heads.specs.Readings.{index_at}
-use Rattle.encoded_value.specs.Readings.{start_at, named_with, value_at, array_at, annotation_at, past_array, past_annotation, past_value, past_named}
+use Rattle.encoded_value.specs.Readings.{start_at, named_with, value_at, array_at, annotation_at, past_array, past_annotation, past_value}
 use Rattle.encoded_value.specs.Depth.{deepest, deepest_value}
-use Rattle.encoded_value.proofs.Cycle.{named_is}
+use Rattle.encoded_value.specs.Stages.{index_past, past_inner}
+use Rattle.encoded_value.proofs.Cycle.{inner_named, inner_plain}
 use Rattle.value_heads.proofs.Exactly.{index_exact}
 use Rattle.encoded_value.proofs.Layers.{ArrayWithin, AnnotationWithin, array_parts, annotation_parts}
 use Rattle.encoded_value.proofs.Exactly.{value_exact, named_exact, array_exact, annotation_exact}
 use Rattle.decoded_value.specs.Shown.{Shown, shown}
 use Rattle.decoded_value.specs.Readings.{read_out, decoded_at}
-use Rattle.value_bodies.specs.Bodies.{ShownElement, array_count, array_value, annotation_noted, annotation_element, value_there, element_there, kth_value, kth_element}
+use Rattle.value_bodies.specs.Bodies.{ShownElement, past, array_count, array_value, annotation_noted, annotation_element, value_there, element_there, kth_value, kth_element}
 use Rattle.value_bodies.proofs.Picks.{pick_there, pick_none, row_length, reached}
 
 -- a number that is there is not refused
@@ -85,7 +87,7 @@ module _ (s : List ℕ) (w : Walk) (p : ℕ) where
       unfolding array_value kth_value value_there decoded_at
       value_kth k h g =
           let a = reached (value_at s w deepest_value) (value_exact s w deepest_value) k (subst (λ (c : Found ℕ ℕ). k < c.item) (sym size_is) h) (array_rule whole).row in
-          let way = subst (λ (c : Found ℕ ℕ). repeat k (past_value s w deepest_value) c.next ≡ answer a.place) size_is a.way in
+          let way = subst (λ (c : Found ℕ ℕ). past s w c.next false k ≡ answer a.place) size_is (sym (λ i. repeat k (λ (q : ℕ). inner_plain s w deepest_value q i) (array_rule whole).size.next) ∙ a.way) in
           g ∙ bind_answer _ way ∙ bind_answer _ (bind_answer read_out a.there_is) ∙ sym (bind_answer _ whole ∙ bind_answer _ (pick_there a.number_is))
 
 -- ---- annotations
@@ -171,7 +173,7 @@ module _ (s : List ℕ) (w : Walk) (p : ℕ) where
       unfolding annotation_element kth_element
       element_kth k h g =
           let a = reached (named_with s w (value_at s w deepest_value)) (named_exact s w deepest_value) k (subst (λ (c : Found ℕ ℕ). k < c.item) (sym begins) h) (annotation_rule there_all).row in
-          let way = subst (λ (c : Found ℕ ℕ). repeat k (past_named s w deepest_value) c.next ≡ answer a.place) begins a.way in
+          let way = subst (λ (c : Found ℕ ℕ). past s w c.next true k ≡ answer a.place) begins (sym (λ i. repeat k (λ (q : ℕ). inner_named s w deepest_value q i) (annotation_rule there_all).size.next) ∙ a.way) in
           g ∙ bind_answer _ way ∙ element_is s w a.place a.there_is ∙ sym (bind_answer _ there_all ∙ bind_answer _ (pick_there a.number_is))
 
 pub ruleset array_laws = (count_unread, count_no_size, count_got, value_unread, value_no_size, value_none, value_kth, handed_on, rules)
@@ -179,20 +181,20 @@ pub ruleset array_laws = (count_unread, count_no_size, count_got, value_unread, 
 pub ruleset annotation_laws = (head_unread, head_no_type, head_no_size, head_got, element_unread, element_no_start, element_none, element_kth, handed_on, rules)
 
 -- ---- one turn of the going over values or named values
-module _ (s : List ℕ) (w : Walk) (left : ℕ) {whole : Outcome ℕ} {count turn p : ℕ} (h : Loop whole (past_named s w left) count turn p) (l : turn < count) where
-  pub name_stop : {r : Refusal} → refused r ≡ index_at s w.item w.strings p → refused r ≡ whole
-  name_stop e = walk_stop h l (sym (named_is s w left p ∙ bind_refused _ (sym e)))
+module _ (s : List ℕ) (w : Walk) (left : ℕ) {whole : Outcome ℕ} {named : Bool} {count turn p : ℕ} (h : Loop whole (past_inner s w named left) count turn p) (l : turn < count) where
+  pub name_stop : {r : Refusal} → named ≡ true → refused r ≡ index_at s w.item w.strings p → refused r ≡ whole
+  unfolding past_inner index_past
+  name_stop b e = walk_stop h l (rw b (sym (bind_refused _ (bind_refused _ (sym e)))))
 
-  module _ {n q : ℕ} (e : answer (record { item = n; next = q }) ≡ index_at s w.item w.strings p) where
-    named : past_named s w left p ≡ past_value s w left q
-    named = named_is s w left p ∙ bind_answer _ (sym e)
+-- where the value of a turn stands: behind its name in an annotation
+module _ (s : List ℕ) (w : Walk) (left : ℕ) {named : Bool} (p : ℕ) {at : ℕ} where
+  pub behind_name : {n q : ℕ} → named ≡ true → answer (record { item = n; next = q }) ≡ index_at s w.item w.strings p → at ≡ q → past_inner s w named left p ≡ past_value s w left at
+  unfolding past_inner index_past
+  behind_name b e z = rw (b, z) (bind_answer _ (bind_answer _ (sym e)))
 
-    pub named_next : {u : ℕ} → answer u ≡ past_value s w left q → Loop whole (past_named s w left) count (turn + 1) u
-    named_next f = walk_next h l (f ∙ sym named)
+  pub no_name : named ≡ false → at ≡ p → past_inner s w named left p ≡ past_value s w left at
+  no_name b z = rw (b, z) (sym (inner_plain s w left p))
 
-    pub named_stop : {r : Refusal} → refused r ≡ past_value s w left q → refused r ≡ whole
-    named_stop f = walk_stop h l (f ∙ sym named)
-
-pub ruleset past_laws = (walk_start, walk_done, walk_next, walk_stop, name_stop, named_next, named_stop, handed_on, rules)
+pub ruleset past_laws = (walk_start, walk_done, handed_on, rules)
 
 pub ruleset there_laws = (calls, rules)

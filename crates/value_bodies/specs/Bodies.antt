@@ -1,12 +1,12 @@
 -- Arrays and annotations by number, as readings: the body whole, then 7 for a number that is not there. A top body is depth 1.
-use Rattle.std.specs.Prelude.{ℕ, zero, suc, List, [], ◌∷◌, length}
+use Rattle.std.specs.Prelude.{ℕ, zero, suc, Bool, true, false, List, [], ◌∷◌, length}
 use Rattle.refusal.specs.Refusals.{not_there}
 use Rattle.refusal.specs.Outcome.{Outcome, answer, refused, ◌>>=◌}
-use Rattle.refusal.specs.Rows.{repeat}
 use Rattle.value_heads.specs.declared.Walk.{Walk}
 use Rattle.value_heads.specs.Readings.{index_at}
 use Rattle.encoded_value.specs.Depth.{deepest, deepest_value}
-use Rattle.encoded_value.specs.Readings.{array_at, annotation_at, past_value, past_named}
+use Rattle.encoded_value.specs.Readings.{array_at, annotation_at}
+use Rattle.encoded_value.specs.Stages.{past_values}
 use Rattle.decoded_value.specs.Shown.{Shown, shown}
 use Rattle.decoded_value.specs.Readings.{decoded_at}
 
@@ -49,12 +49,9 @@ module _ (s : List ℕ) (w : Walk) (p : ℕ) where
     e ← pick k r.item.elements
     answer (record { name = e.name; value = shown e.value })
 
-  -- stages of the code: what stands behind k values or elements
-  abbrev pub values_past : ℕ → Outcome ℕ
-  values_past k = repeat k (past_value s w deepest_value) p
-
-  abbrev pub elements_past : ℕ → Outcome ℕ
-  elements_past k = repeat k (past_named s w deepest_value) p
+  -- stages of the code: what stands behind k elements of an annotation, or k values of an array
+  abbrev pub past : Bool → ℕ → Outcome ℕ
+  past named k = past_values s w named deepest_value k p
 
   unfoldable pub value_there : Outcome Shown
   value_there = do
@@ -70,10 +67,10 @@ module _ (s : List ℕ) (w : Walk) (p : ℕ) where
 module _ (s : List ℕ) (w : Walk) (from k : ℕ) where
   unfoldable pub kth_value : Outcome Shown
   kth_value = do
-    q ← values_past s w from k
+    q ← past s w from false k
     value_there s w q
 
   unfoldable pub kth_element : Outcome ShownElement
   kth_element = do
-    q ← elements_past s w from k
+    q ← past s w from true k
     element_there s w q

@@ -4,7 +4,7 @@
 ghost use Rattle.std.specs.Prelude.{◌≡◌};
 ghost use Rattle.encoded_value.specs.Answers.{step_outcome};
 ghost use Rattle.value_bodies.specs.Bodies.{array_count, array_value, annotation_noted, annotation_element};
-ghost use Rattle.value_bodies.specs.Bodies.{values_past, elements_past, element_there, kth_value, kth_element};
+ghost use Rattle.value_bodies.specs.Bodies.{past, element_there, kth_value, kth_element};
 ghost use Rattle.value_bodies.specs.Answers.{count_outcome, picked_outcome, annotation_head_outcome, element_outcome};
 
 use decoded_value::Value;
@@ -34,13 +34,18 @@ pub fn array_count(s: &[u8], w: Walk, at: usize) -> Result<u32, Refusal>
     Ok(value)
 }
 
-// Where k values end, one after the other.
-fn values_past(s: &[u8], w: Walk, from: usize, k: u32) -> Result<usize, Refusal>
-    ensures { step_outcome result ≡ values_past s.now w from k }
+// Where k values end, one after the other, each behind its name in an annotation. Not the loop of `encoded_value`, which has one caller and is compiled into it.
+fn past(s: &[u8], w: Walk, named: bool, from: usize, k: u32) -> Result<usize, Refusal>
+    ensures { step_outcome result ≡ past s.now w from named k }
 {
     let mut p = from;
     for _ in 0..k {
-        p = encoded_value::value(s, w, p, DEEPEST_VALUE)?;
+        let at = if named {
+            value_heads::index_at(s, w.item, w.strings, p)?.next
+        } else {
+            p
+        };
+        p = encoded_value::value(s, w, at, DEEPEST_VALUE)?;
     }
     Ok(p)
 }
@@ -49,7 +54,7 @@ fn values_past(s: &[u8], w: Walk, from: usize, k: u32) -> Result<usize, Refusal>
 fn kth_value(s: &[u8], w: Walk, from: usize, k: u32) -> Result<Value, Refusal>
     ensures { picked_outcome result ≡ kth_value s.now w from k }
 {
-    let at = values_past(s, w, from, k)?;
+    let at = past(s, w, false, from, k)?;
     let Read { value, .. } = decoded_value::decode_at(s, w, at, DEEPEST_VALUE)?;
     Ok(value)
 }
@@ -79,18 +84,6 @@ pub fn annotation_head(s: &[u8], w: Walk, at: usize) -> Result<AnnotationHead, R
     Ok(AnnotationHead { type_index, count })
 }
 
-// Where k elements end, one after the other.
-fn elements_past(s: &[u8], w: Walk, from: usize, k: u32) -> Result<usize, Refusal>
-    ensures { step_outcome result ≡ elements_past s.now w from k }
-{
-    let mut p = from;
-    for _ in 0..k {
-        let Read { next: at, .. } = value_heads::index_at(s, w.item, w.strings, p)?;
-        p = encoded_value::value(s, w, at, DEEPEST_VALUE)?;
-    }
-    Ok(p)
-}
-
 // The element at a place: its name and its value.
 fn element_at(s: &[u8], w: Walk, at: usize) -> Result<Element, Refusal>
     ensures { element_outcome result ≡ element_there s.now w at }
@@ -104,7 +97,7 @@ fn element_at(s: &[u8], w: Walk, at: usize) -> Result<Element, Refusal>
 fn kth_element(s: &[u8], w: Walk, from: usize, k: u32) -> Result<Element, Refusal>
     ensures { element_outcome result ≡ kth_element s.now w from k }
 {
-    let at = elements_past(s, w, from, k)?;
+    let at = past(s, w, true, from, k)?;
     element_at(s, w, at)
 }
 
