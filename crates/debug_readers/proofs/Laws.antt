@@ -9,6 +9,8 @@ use lib.Seq.{get_or-take}
 use borrow.Author.Rules.{rules}
 use native.Mathlib.Omega.{arith}
 use native.Mathlib.Nat.{min-le_left, min-le_right}
+use Rattle.std.specs.Prelude.{Ok, Some}
+use Rattle.std.specs.Prelude as S
 use Rattle.refusal.specs.declared.Refusal.{Refusal}
 use Rattle.refusal.specs.Outcome.{Outcome, answer, refused, ◌>>=◌}
 use Rattle.refusal.proofs.Laws.{calls}
@@ -20,6 +22,8 @@ use Rattle.debug_info.specs.Debug.{Debug, debug_at, Extent, extent_at, name_of}
 use Rattle.debug_info.proofs.Exactly.{debug_exact}
 use Rattle.class_readers.specs.declared.Spot.{Spot}
 use Rattle.class_readers.specs.Spots.{onward, debug_spot}
+use Rattle.debug_info.specs.declared.DebugOutline.{DebugOutline}
+use Rattle.debug_readers.specs.Answers.{maybe_debug}
 use Rattle.debug_readers.specs.Debug.{whole_under, debug_whole, extent_under, method_debug, program_of, line_program}
 
 -- ---- debug information that was read in the file up to the data section's end, s
@@ -116,13 +120,13 @@ module _ (f : List ℕ) (c list k : ℕ) where
       go (answer (some d)) w = absurd (let z : 0 ≡ 1 = ap kind w in omega arith)
       go (refused q) w = refl
 
-  pub program_some : {l n p m : ℕ} {y : List ℕ} → answer (some (record { line = l; names = n; start = p; length = m })) ≡ method_debug f c list k → y ≡ part f p m → y ≡ line_program f c list k
+  pub program_some : {x : S.Option DebugOutline} {d : DebugOutline} {y : List ℕ} → maybe_debug (Ok x) ≡ method_debug f c list k → x ≡ Some d → y ≡ part f d.start d.length → y ≡ line_program f c list k
   unfolding line_program program_of onward ◌>>=◌
-  program_some {l} {n} {p} {m} {y} e q = go (debug_whole f c list k) whole_lies (e ∙ of_whole)
+  program_some {x} {d} {y} e t q = go (debug_whole f c list k) whole_lies (sym (ap (λ (z : S.Option DebugOutline). maybe_debug (Ok z)) t) ∙ e ∙ of_whole)
     where
-      go : (o : Outcome (Option Debug)) → Lying f o → answer (some (record { line = l; names = n; start = p; length = m })) ≡ (o >>= onward handed) → y ≡ program_of o
+      go : (o : Outcome (Option Debug)) → Lying f o → maybe_debug (Ok (Some d)) ≡ (o >>= onward handed) → y ≡ program_of o
       go (answer none) lies w = absurd (let z : 1 ≡ 0 = ap kind w in omega arith)
-      go (answer (some d)) lies w = q ∙ (λ i. part f (shown (w i)).start (shown (w i)).length) ∙ lies
+      go (answer (some m)) lies w = q ∙ (λ i. part f (shown (w i)).start (shown (w i)).length) ∙ lies
       go (refused r) lies w = absurd (let z : 1 ≡ 2 = ap kind w in omega arith)
 
 pub ruleset under_laws = (debug_framed, name_framed, calls, rules)

@@ -1,6 +1,6 @@
 -- What the answers of the code say: where there is no debug information, none.
 use Rattle.std.specs.Prelude.{ℕ, Result}
-use Rattle.std.proofs.Math.Option.{Option, none}
+use Rattle.std.proofs.Math.Option.{Option}
 use Rattle.refusal.specs.Outcome.{Outcome}
 use Rattle.debug_info.specs.Debug.{Extent}
 use Rattle.debug_info.specs.Answers.{name_meant}

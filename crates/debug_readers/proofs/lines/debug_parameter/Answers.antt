@@ -2,14 +2,14 @@ use Rattle.class_readers.proofs.SpotLaws.{laws}
 use Rattle.debug_readers.specs.Debug.{parameter_name}
 use Rattle.debug_readers.proofs.lines.debug_parameter.Goals as goal
 
-pub returns-in-Refused : goal.returns-in-Refused
+pub returns-in_err-spot : goal.returns-in_err-spot
 unfolding parameter_name
-returns-in-Refused c = search laws
+returns-in_err-spot c = search laws
 
-pub returns-in-Absent : goal.returns-in-Absent
+pub returns-in_default : goal.returns-in_default
 unfolding parameter_name
-returns-in-Absent c = search laws
+returns-in_default c = search laws
 
-pub returns-in-Got : goal.returns-in-Got
+pub returns : goal.returns
 unfolding parameter_name
-returns-in-Got c = search laws
+returns c = search laws

@@ -2,10 +2,10 @@ use Rattle.debug_readers.proofs.Laws.{under_laws as laws}
 use Rattle.debug_readers.specs.Debug.{name_under}
 use Rattle.debug_readers.proofs.lines.name_under.Goals as goal
 
-pub returns-in-Refused : goal.returns-in-Refused
+pub returns-in_err-name : goal.returns-in_err-name
 unfolding name_under
-returns-in-Refused c = search laws
+returns-in_err-name c = search laws
 
-pub returns-in-Got : goal.returns-in-Got
+pub returns : goal.returns
 unfolding name_under
-returns-in-Got c = search laws
+returns c = search laws
