@@ -5,7 +5,6 @@ use Rattle.std.proofs.Math.Option.{Option, none, some}
 use Rattle.refusal.specs.declared.Refusal.{Refusal}
 use Rattle.refusal.specs.Outcome.{Outcome, answer, refused}
 use Rattle.word.specs.declared.Endian as E
-use Rattle.header.specs.declared.Table.{Table}
 use Rattle.header.specs.declared.Header.{Header}
 use Rattle.map_list.specs.declared.MapEntry.{MapEntry}
 use Rattle.text.specs.Text.{Extent}

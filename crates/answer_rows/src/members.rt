@@ -9,8 +9,11 @@ ghost use Rattle.debug_readers.specs.Answers.{maybe_debug as debug_outcome, mayb
 ghost use Rattle.answer_rows.specs.Words.{counts_words, debug_words, found_words, handler_words, number_words, option_word, option_words, outline_words, pair_words, row, told_if, try_words};
 
 use super::words;
+use class_data::Counts;
+use class_members::Member;
 use code_item::{HandlerOutline, NumberedTry, Outline};
 use debug_info::DebugOutline;
+use handlers::Pair;
 use refusal::Refusal;
 
 fn option_word(n: Option<u32>) -> u64

@@ -7,7 +7,7 @@ ghost use Rattle.annotation_items.specs.Answers.{summary_outcome as annotation-o
 ghost use Rattle.answer_rows.specs.Words.{annotation_words, directory_words, no_words, place_words, told, told_if};
 
 use super::words;
-use annotation_directories::DirectoryEntry;
+use annotation_directories::{DirectoryEntry, DirectoryHead};
 use annotation_items::Summary;
 use refusal::Refusal;
 

@@ -15,6 +15,9 @@ ghost use Rattle.static_fields.specs.Answers.{maybe_field, maybe_wrong};
 ghost use Rattle.answer_rows.specs.Words.{array_words, body_words, element_words, entry_words, handle_words, member_words, number_words, proto_words, static_words, text_words, told, told_if, value_words, wrong_words};
 
 use super::words;
+use decoded_value::Value;
+use ids::{Handle, MemberId, Proto};
+use map_list::MapEntry;
 use refusal::Refusal;
 use static_fields::{StaticField, WrongKind};
 use text::TextPlace;
