@@ -48,10 +48,10 @@ fn member_under(f: &[u8], spot: Spot, list: u32, k: u32) -> Result<Option<Member
 pub fn member(f: &[u8], c: u32, list: u32, k: u32) -> Result<Option<Member>, Refusal>
     ensures { maybe_member result ≡ member_number f.now c list k }
 {
-    let Some(spot) = super::spots::data_spot(f, c)? else {
+    let Some(data) = super::spots::data_spot(f, c)? else {
         return Ok(None);
     };
-    member_under(f, spot, list, k)
+    member_under(f, data, list, k)
 }
 
 // Its access flags as bit numbers in a lent output: how many; 19, writing nothing, where the output is shorter.

@@ -47,13 +47,13 @@ fn try_under(f: &[u8], spot: Spot, t: u32) -> Result<Option<NumberedTry>, Refusa
     ensures { maybe_try result ≡ try_under f.now t spot }
 {
     let header = spot.header;
-    let x = code_item::try_at(
+    let numbered = code_item::try_at(
         header::up_to_end(f, header),
         header::plain_frame(header),
         spot.place as usize,
         t,
     )?;
-    Ok(Some(x))
+    Ok(Some(numbered))
 }
 
 // Try t of it.
@@ -98,13 +98,13 @@ fn handler_under(f: &[u8], spot: Spot, number: u32) -> Result<Option<HandlerOutl
     ensures { maybe_handler result ≡ handler_under f.now number spot }
 {
     let header = spot.header;
-    let x = code_item::handler_at(
+    let handler = code_item::handler_at(
         header::up_to_end(f, header),
         header::plain_frame(header),
         spot.place as usize,
         number,
     )?;
-    Ok(Some(x))
+    Ok(Some(handler))
 }
 
 // A handler of it.

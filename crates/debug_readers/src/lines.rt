@@ -12,12 +12,12 @@ fn extent_under(f: &[u8], spot: Spot) -> Result<Option<DebugOutline>, Refusal>
 {
     let header = spot.header;
     let strings = header.strings;
-    let x = debug_info::debug_at(
+    let outline = debug_info::debug_at(
         header::up_to_end(f, header),
         strings.count,
         spot.place as usize,
     )?;
-    Ok(Some(x))
+    Ok(Some(outline))
 }
 
 // The starting line of the code of method k of a list of class c, how many names, and where the line program lies.
