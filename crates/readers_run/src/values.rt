@@ -39,7 +39,8 @@ fn step_row(f: &[u8], v: [u64; 20], k: u8) -> [u64; 20] {
 pub(crate) fn inner_row(f: &[u8], start: [u64; 20], path: &[u8]) -> [u64; 20] {
     let mut at = start;
     for k in path {
-        at = step_row(f, at, *k);
+        let next = step_row(f, at, *k);
+        at = next;
     }
     at
 }
