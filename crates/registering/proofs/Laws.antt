@@ -3,11 +3,10 @@
 use Rattle.std.proofs.Common.{◌≡◌, ℕ, ◌+◌, ◌-◌, ◌*◌, ◌<◌, ◌≤◌, Bool, List, length, take, drop, ℤ, pos, negsuc, sym, refl, ap, ◌∙◌, arith, length-drop, length-take-le, take_all, w8, w16, w32, w64, Fits, SFits, to_z, of_z, rules}
 use mir.ValLaws.{to_z-of_z}
 use Rattle.header.specs.declared.Header.{Header}
-use Rattle.verdict.specs.declared.Verdict.{Verdict}
-use Rattle.verdict.specs.declared.Verdict as D
-use Rattle.verdict.specs.Answers.{verdict_outcome}
+use Rattle.refusal.specs.Outcome.{answer}
+use Rattle.std.specs.Prelude.{Ok}
 use Rattle.file_report.specs.Input.{input_at}
-use Rattle.checking.specs.Status.{Tells, unsaid, Comes}
+use Rattle.checking.specs.Status.{Tells, said, unsaid, Comes}
 use Rattle.checking.proofs.Laws.{comes, laws as checking-laws}
 use Rattle.register_text.specs.Escapes.{Pieced}
 use Rattle.register_text.proofs.Laws.{piece_fits, piece_goes_on}
@@ -21,10 +20,10 @@ pub something_wrong : (n : ℕ) → 2 ≤ n → Ended n
 something_wrong n l = broken l
 
 -- of an accepted input
-pub accepted_comes : (f : List ℕ) (v : Verdict) (h : Header) (n : ℕ) → verdict_outcome v ≡ input_at f → v ≡ D.TheVariants.Accepted h → Ended n → Comes f n
-accepted_comes f v h n e c w = comes f v n e (rw c (tells w))
+pub accepted_comes : (f : List ℕ) (h : Header) (n : ℕ) → answer h ≡ input_at f → Ended n → Comes f n
+accepted_comes f h n e w = comes f (Ok h) n e (tells w)
   where
-    tells : Ended n → Tells (verdict_outcome (D.TheVariants.Accepted h)) n
+    tells : Ended n → Tells (answer h) n
     tells (whole z) = said z
     tells (broken l) = unsaid l
 

@@ -44,14 +44,12 @@ fn entry_field(f: &[u8], header: Header, directory: u32, k: u32) -> u32 {
 // Is no entry's field below that of the one before? There is no rule of it, so it is looked at once for each class.
 fn is_rising(f: &[u8], header: Header, directory: u32, count: u32) -> bool {
     let mut last: u32 = 0;
-    let mut k: u32 = 0;
-    while k < count {
+    for k in 0..count {
         let field = entry_field(f, header, directory, k);
         if field < last {
             return false;
         }
         last = field;
-        k += 1;
     }
     true
 }
@@ -148,8 +146,7 @@ pub fn write_set(
     let count = word_of(f, header, set as usize);
     let mut number = fact.number;
     let mut u = used;
-    let mut i: u32 = 0;
-    while i < count {
+    for i in 0..count {
         let item = word_of(f, header, set as usize + 4 + 4 * i as usize);
         let numbered = Fact {
             class: fact.class,
@@ -160,7 +157,6 @@ pub fn write_set(
         };
         u = write_annotation(rt, f, header, handles, numbered, item, out, u);
         number = std::num::wrapping_add_u32(number, 1);
-        i += 1;
     }
     Numbered { number, used: u }
 }
@@ -193,14 +189,6 @@ fn write_entry(
     Numbered { number, used }
 }
 
-// How many entries there are from one on.
-fn left_of(count: u32, from: u32) -> u32 {
-    if from < count {
-        return count - from;
-    }
-    0
-}
-
 // Can no entry from this one on be the field's?
 fn is_past(rising: bool, index: u32, field: u32) -> bool {
     if rising {
@@ -225,8 +213,7 @@ pub fn write_entries(
     let directory = entries.directory;
     let mut number: u32 = 0;
     let mut u = used;
-    let mut k = from;
-    for _ in 0..left_of(entries.count, from) {
+    for k in from..entries.count {
         if is_past(entries.rising, index, entry_field(f, header, directory, k)) {
             return Reached { entry: k, used: u };
         }
@@ -235,7 +222,9 @@ pub fn write_entries(
         );
         number = numbered.number;
         u = numbered.used;
-        k = std::num::wrapping_add_u32(k, 1);
     }
-    Reached { entry: k, used: u }
+    Reached {
+        entry: from.max(entries.count),
+        used: u,
+    }
 }

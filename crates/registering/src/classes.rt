@@ -330,10 +330,8 @@ pub fn write_classes(
             let handles = m.handles;
             let classes = header.classes;
             let mut u = used;
-            let mut n: u32 = 0;
-            for _ in 0..classes.count {
+            for n in 0..classes.count {
                 u = write_class(rt, f, header, handles.count, n, out, u);
-                n = std::num::wrapping_add_u32(n, 1);
             }
             u
         }

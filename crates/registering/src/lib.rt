@@ -45,14 +45,13 @@ fn register_argument(
     path: &mut [u8],
     room: &mut [u8],
 ) -> u8 {
-    let input = checking::read_argument(rt, i, path, room);
-    let k = input.name;
-    let n = input.length;
-    if 0 < input.status {
-        return input.status;
+    match checking::read_argument(rt, i, path, room) {
+        Err(status) => status,
+        Ok(input) => {
+            let name = &path[..input.name];
+            register_bytes(rt, &room[..input.length], name, name)
+        }
     }
-    let name = &path[..k];
-    register_bytes(rt, &room[..n], name, name)
 }
 
 // The registers of the files that the arguments from one on name, up to a write that fails: the worst that they come to.
@@ -60,13 +59,11 @@ fn register_arguments(rt: &(impl Files + Env + Print), first: usize, count: usiz
     let mut path = io::buffer();
     let mut room = [0u8; ROOM];
     let mut worst: u8 = 0;
-    let mut i = first;
-    while i < count {
+    for i in first..count {
         worst = checking::worse(worst, register_argument(rt, i, &mut path, &mut room));
         if worst == checking::UNWRITTEN {
             return worst;
         }
-        i += 1;
     }
     worst
 }
@@ -74,12 +71,10 @@ fn register_arguments(rt: &(impl Files + Env + Print), first: usize, count: usiz
 // The register of standard input.
 fn register_standard(rt: &(impl Env + std::io::Input + Print)) -> u8 {
     let mut room = [0u8; ROOM];
-    let input = checking::read_standard(rt, &mut room);
-    let n = input.length;
-    if 0 < input.status {
-        return input.status;
+    match checking::read_standard(rt, &mut room) {
+        Err(status) => status,
+        Ok(n) => register_bytes(rt, &room[..n], b"standard input", b""),
     }
-    register_bytes(rt, &room[..n], b"standard input", b"")
 }
 
 // Of standard input, or of each file that is named from an argument on.

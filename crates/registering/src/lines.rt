@@ -120,6 +120,7 @@ pub fn put_text(
 ) -> usize {
     let mut i: usize = 0;
     let mut p = used;
+    // `while`: a piece takes as many bytes as its form has.
     while i < text.len() {
         p = reserve(rt, out, p);
         if out.len() < 4 {
@@ -138,10 +139,8 @@ pub fn put_text(
 // The bytes of a name as they are.
 fn put_bytes(rt: &(impl Env + Print), name: &[u8], out: &mut [u8], used: usize) -> usize {
     let mut p = used;
-    let mut i: usize = 0;
-    while i < name.len() {
-        p = put(rt, &[name[i]], out, p);
-        i += 1;
+    for b in name {
+        p = put(rt, &[*b], out, p);
     }
     p
 }

@@ -118,13 +118,8 @@ fn put_key(
     used: usize,
 ) -> usize {
     let mut p = put_fact(rt, f, header, fact, out, used);
-    let mut i: usize = 0;
-    while i < depth {
-        if STEPS <= i {
-            return UNREAD;
-        }
-        p = put_step(rt, f, header, steps[i], out, p);
-        i += 1;
+    for step in steps.iter().take(depth) {
+        p = put_step(rt, f, header, *step, out, p);
     }
     p
 }
@@ -201,45 +196,36 @@ fn put_index(
     out: &mut [u8],
     used: usize,
 ) -> usize {
-    if kind == 0x15 {
-        let p = lines::put(rt, b"\tproto", out, used);
-        return names::put_number_column(rt, n as u64, out, p);
+    match kind {
+        0x15 => {
+            let p = lines::put(rt, b"\tproto", out, used);
+            names::put_number_column(rt, n as u64, out, p)
+        }
+        0x16 => {
+            let p = lines::put(rt, b"\thandle", out, used);
+            names::put_number_column(rt, n as u64, out, p)
+        }
+        0x17 => {
+            let p = lines::put(rt, b"\tstring", out, used);
+            names::put_text_column(rt, f, header, n, out, p)
+        }
+        0x18 => {
+            let p = lines::put(rt, b"\ttype", out, used);
+            names::put_type_column(rt, f, header, n, out, p)
+        }
+        0x1a => {
+            let p = lines::put(rt, b"\tmethod", out, used);
+            names::put_method(rt, f, header, n, out, p)
+        }
+        0x1b => {
+            let p = lines::put(rt, b"\tenum", out, used);
+            names::put_field(rt, f, header, n, out, p)
+        }
+        _ => {
+            let p = lines::put(rt, b"\tfield", out, used);
+            names::put_field(rt, f, header, n, out, p)
+        }
     }
-    if kind == 0x16 {
-        let p = lines::put(rt, b"\thandle", out, used);
-        return names::put_number_column(rt, n as u64, out, p);
-    }
-    if kind == 0x17 {
-        let p = lines::put(rt, b"\tstring", out, used);
-        return names::put_text_column(rt, f, header, n, out, p);
-    }
-    if kind == 0x18 {
-        let p = lines::put(rt, b"\ttype", out, used);
-        return names::put_type_column(rt, f, header, n, out, p);
-    }
-    put_member_index(rt, f, header, kind, n, out, used)
-}
-
-// A field, an enum or a method.
-fn put_member_index(
-    rt: &(impl Env + Print),
-    f: &[u8],
-    header: Header,
-    kind: u32,
-    n: u32,
-    out: &mut [u8],
-    used: usize,
-) -> usize {
-    if kind == 0x1a {
-        let p = lines::put(rt, b"\tmethod", out, used);
-        return names::put_method(rt, f, header, n, out, p);
-    }
-    if kind == 0x1b {
-        let p = lines::put(rt, b"\tenum", out, used);
-        return names::put_field(rt, f, header, n, out, p);
-    }
-    let p = lines::put(rt, b"\tfield", out, used);
-    names::put_field(rt, f, header, n, out, p)
 }
 
 fn put_truth(rt: &(impl Env + Print), b: bool, out: &mut [u8], used: usize) -> usize {
@@ -475,6 +461,7 @@ fn write_open(
     let mut depth: usize = 1;
     let mut p = from;
     let mut u = used;
+    // `while`: how deep it stands goes up and down.
     while 0 < depth {
         let top = depth - 1;
         if left[top] == 0 {
