@@ -8,6 +8,7 @@ ghost use Rattle.registering.specs.Ends.{Ended};
 
 use checking::ROOM;
 use header::Header;
+use lines::{Output, Stopped};
 use std::env::Env;
 use std::fs::Files;
 
@@ -18,13 +19,23 @@ mod names;
 mod values;
 
 // The heading of a file that is named, and its register. Standard input has an empty name.
+fn put_register(
+    rt: &(impl Env + Print),
+    f: &[u8],
+    header: Header,
+    name: &[u8],
+) -> Result<(), Stopped> {
+    let mut out = Output::new();
+    out.put_heading(rt, name)?;
+    classes::write_classes(rt, f, header, &mut out)?;
+    out.flush(rt)
+}
+
+// Writes the register of a file, and says what it comes to.
 fn write_register(rt: &(impl Env + Print), f: &[u8], header: Header, what: &[u8], name: &[u8]) -> u8
     ensures { Ended result }
 {
-    let mut out = [0u8; lines::SPACE];
-    let start = lines::put_heading(rt, name, &mut out);
-    let used = classes::write_classes(rt, f, header, &mut out, start);
-    lines::ended(lines::flush(rt, &out, used), what)
+    lines::ended(put_register(rt, f, header, name), what)
 }
 
 // Checks an input that was read whole, and writes its register, or its refusal.
