@@ -1,76 +1,32 @@
--- What the functions' proofs cite: a piece of a text goes on, and what a register comes to.
+-- What the functions' proofs cite: what is put fits the room, and a piece of a text goes on.
 -- Assumes nothing.
 use Rattle.std.proofs.Common.{◌≡◌, ℕ, ◌+◌, ◌-◌, ◌*◌, ◌<◌, ◌≤◌, Bool, List, length, take, drop, ℤ, pos, negsuc, sym, refl, ap, ◌∙◌, arith, length-drop, length-take-le, take_all, w8, w16, w32, w64, Fits, SFits, to_z, of_z, rules}
-use mir.ValLaws.{to_z-of_z}
-use Rattle.header.specs.declared.Header.{Header}
-use Rattle.verdict.specs.declared.Verdict.{Verdict}
-use Rattle.verdict.specs.declared.Verdict as D
-use Rattle.verdict.specs.Answers.{verdict_outcome}
-use Rattle.file_report.specs.Input.{input_at}
-use Rattle.checking.specs.Status.{Tells, unsaid, Comes}
-use Rattle.checking.proofs.Laws.{comes, laws as checking-laws}
+use Rattle.refusal.specs.Outcome.{answer}
+use Rattle.report.specs.Stored.{written}
+use Rattle.report.proofs.Laws.{got_within}
+use lib.ListN.{length-take}
+use borrow.Rule.Slice.PartMut.{mid_of, put_mid, same_len_mid}
 use Rattle.register_text.specs.Escapes.{Pieced}
-use Rattle.register_text.proofs.Laws.{piece_fits, piece_goes_on}
-use Rattle.registering.specs.Ends.{Ended, whole, broken}
+use Rattle.register_text.proofs.Laws.{piece_goes_on}
 
--- ---- what a register comes to
-pub nothing_wrong : Ended 0
-nothing_wrong = whole refl
+-- ---- the rest of the output is lent
+lent_long : (n : ℕ) (out : List ℕ) → length (take n out) ≤ n
+lent_long n out = let z = length-take n out in omega arith
 
-pub something_wrong : (n : ℕ) → 2 ≤ n → Ended n
-something_wrong n l = broken l
+module _ (text out : List ℕ) (p k : ℕ) (e : answer k ≡ written text (length (take (16384 - p) (drop p out)))) (l : p ≤ 16384) where
+  pub put_within : p + k ≤ 16384
+  put_within = let z = got_within text (length (take (16384 - p) (drop p out))) k e in let y = lent_long (16384 - p) (drop p out) in omega arith
 
--- of an accepted input
-pub accepted_comes : (f : List ℕ) (v : Verdict) (h : Header) (n : ℕ) → verdict_outcome v ≡ input_at f → v ≡ D.TheVariants.Accepted h → Ended n → Comes f n
-accepted_comes f v h n e c w = comes f v n e (rw c (tells w))
-  where
-    tells : Ended n → Tells (verdict_outcome (D.TheVariants.Accepted h)) n
-    tells (whole z) = said z
-    tells (broken l) = unsaid l
+  pub put_fits : Fits w64 (p + k)
+  put_fits = record { fits = let z = put_within in omega arith }
 
-pub ruleset end_laws = (nothing_wrong, something_wrong, accepted_comes, checking-laws, rules)
+pub ruleset put_laws = (put_within, put_fits, rules)
 
--- ---- a text in pieces: the rest of the output is lent
-module _ (out : List ℕ) (p : ℕ) where
-  lent_long : length (take (length out - p) (drop p out)) ≡ length out - p
-  lent_long = ap length (take_all (length out - p) (drop p out) (let z = length-drop p out in omega arith)) ∙ length-drop p out
+-- it is as long afterwards
+pub room_kept : (p : ℕ) (out lent : List ℕ) → length lent ≡ length (mid_of p (16384 - p) out) → length out ≡ 16384 → length (put_mid p (16384 - p) out lent) ≡ 16384
+room_kept p out lent e l = same_len_mid p (16384 - p) out lent e ∙ l
 
-  module _ {key : Bool} {text after : List ℕ} {from next used : ℕ} (h : Pieced key text from (take (length out - p) (drop p out)) after next used) where
-    pub piece_less : from < length text → 4 ≤ length out → p ≤ length out - 4 → length text - next < length text - from
-    piece_less l four room = let y = piece_goes_on h l (let z = lent_long in omega arith) in omega arith
-
-    pub piece_sum : p ≤ length out → Fits w64 (length out) → Fits w64 (p + used)
-    piece_sum l f = record { fits = let z = lent_long in let y = piece_fits h in let x = f.fits in omega arith }
-
-pub ruleset piece_laws = (piece_less, piece_sum, rules)
-
--- ---- what is used of the output, to be written
-pub front_long : (used : ℕ) (out : List ℕ) → used ≤ length out → used ≡ length (take used out)
-front_long used out l = sym (length-take-le used out l)
-
-pub ruleset flush_laws = (front_long, rules)
-
--- ---- a signed number in 64 bits
-module _ (z : ℤ) where
-  pub wide_byte : SFits w8 z → SFits w64 (to_z w8 (of_z w8 z))
-  wide_byte f = rw (to_z-of_z w8 z f) (by z f)
-    where
-      by : (y : ℤ) → SFits w8 y → SFits w64 y
-      by (pos n) g = record { sfits = let k = g.sfits in omega arith }
-      by (negsuc n) g = record { sfits = let k = g.sfits in omega arith }
-
-  pub wide_short : SFits w16 z → SFits w64 (to_z w16 (of_z w16 z))
-  wide_short f = rw (to_z-of_z w16 z f) (by z f)
-    where
-      by : (y : ℤ) → SFits w16 y → SFits w64 y
-      by (pos n) g = record { sfits = let k = g.sfits in omega arith }
-      by (negsuc n) g = record { sfits = let k = g.sfits in omega arith }
-
-  pub wide_int : SFits w32 z → SFits w64 (to_z w32 (of_z w32 z))
-  wide_int f = rw (to_z-of_z w32 z f) (by z f)
-    where
-      by : (y : ℤ) → SFits w32 y → SFits w64 y
-      by (pos n) g = record { sfits = let k = g.sfits in omega arith }
-      by (negsuc n) g = record { sfits = let k = g.sfits in omega arith }
-
-pub ruleset wide_laws = (wide_byte, wide_short, wide_int, rules)
+-- ---- a text in pieces
+module _ (key : Bool) (text out after : List ℕ) (from next used p : ℕ) (h : Pieced key text from (take (16384 - p) (drop p out)) after next used) (l : p + 64 ≤ 16384) where
+  pub piece_less : from < length text → length out ≡ 16384 → length text - next < length text - from
+  piece_less m e = let z = piece_goes_on h m (let y = length-take (16384 - p) (drop p out) in let x = length-drop p out in omega arith) in omega arith

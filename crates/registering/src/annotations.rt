@@ -1,7 +1,7 @@
 // Annotations of a class and of its fields. A directory has entries for fields, each with a set; a set has annotation items.
-use super::lines::UNREAD;
-use super::values::Fact;
-use super::{lines, names, values};
+use super::lines::{Output, Stopped};
+use super::values::{Fact, Kind, Owner};
+use super::{names, values};
 use header::Header;
 use refusal::Read;
 use std::env::Env;
@@ -14,20 +14,6 @@ pub struct Entries {
     pub count: u32,
     pub rising: bool,
     pub set: u32,
-}
-
-// How many annotations were written, and how much of the output is used.
-#[derive(Clone, Copy)]
-pub struct Numbered {
-    pub number: u32,
-    pub used: usize,
-}
-
-// The entry to go on with at the next field, and how much of the output is used.
-#[derive(Clone, Copy)]
-pub struct Reached {
-    pub entry: u32,
-    pub used: usize,
 }
 
 // The word at a place of the data section.
@@ -44,14 +30,12 @@ fn entry_field(f: &[u8], header: Header, directory: u32, k: u32) -> u32 {
 // Is no entry's field below that of the one before? There is no rule of it, so it is looked at once for each class.
 fn is_rising(f: &[u8], header: Header, directory: u32, count: u32) -> bool {
     let mut last: u32 = 0;
-    let mut k: u32 = 0;
-    while k < count {
+    for k in 0..count {
         let field = entry_field(f, header, directory, k);
         if field < last {
             return false;
         }
         last = field;
-        k += 1;
     }
     true
 }
@@ -90,27 +74,18 @@ fn write_body(
     w: Walk,
     fact: Fact,
     at: usize,
-    out: &mut [u8],
-    used: usize,
-) -> usize {
+    out: &mut Output,
+) -> Result<(), Stopped> {
     let s = header::up_to_end(f, header);
-    match value_heads::index_at(s, w.item, w.types, at) {
-        Err(_) => UNREAD,
-        Ok(
-            Read {
-                value: type_index,
-                next: middle,
-            },
-        ) => match leb128::uleb(s, middle, w.item) {
-            Err(_) => UNREAD,
-            Ok(Read { value: count, next }) => {
-                let p = names::put_type_column(rt, f, header, type_index, out, used);
-                let q = lines::put(rt, b"\n", out, p);
-                let gone = values::write_values(rt, f, header, w, fact, true, count, next, out, q);
-                gone.used
-            }
-        },
-    }
+    let Read {
+        value: type_index,
+        next: middle,
+    } = value_heads::index_at(s, w.item, w.types, at)?;
+    let Read { value: count, next } = leb128::uleb(s, middle, w.item)?;
+    names::put_type_column(rt, f, header, type_index, out)?;
+    out.put(rt, b"\n")?;
+    values::write_values(rt, f, header, w, fact, true, count, next, out)?;
+    Ok(())
 }
 
 // The annotation item at an offset.
@@ -121,121 +96,90 @@ fn write_annotation(
     handles: u32,
     fact: Fact,
     item: u32,
-    out: &mut [u8],
-    used: usize,
-) -> usize {
+    out: &mut Output,
+) -> Result<(), Stopped> {
     let at = item as usize;
     let body = item as usize + 1;
     let visibility = word::byte_at(f, at);
-    let p = values::put_fact(rt, f, header, fact, out, used);
-    let q = lines::put(rt, b"\tannotation", out, p);
-    let r = names::put_number_column(rt, visibility as u64, out, q);
+    values::put_fact(rt, f, header, fact, out)?;
+    out.put(rt, b"\tannotation")?;
+    names::put_number_column(rt, visibility as u64, out)?;
     let w = value_heads::walk_of(header::frame_of(header, handles), at);
-    write_body(rt, f, header, w, fact, body, out, r)
+    write_body(rt, f, header, w, fact, body, out)
 }
 
-// The annotations of the set at an offset, numbered from a number on.
+// The annotations of the set at an offset, numbered from a number on: the number to go on with.
 pub fn write_set(
     rt: &(impl Env + Print),
     f: &[u8],
     header: Header,
     handles: u32,
-    fact: Fact,
+    owner: Owner,
     set: u32,
-    out: &mut [u8],
-    used: usize,
-) -> Numbered {
+    from: u32,
+    out: &mut Output,
+) -> Result<u32, Stopped> {
     let count = word_of(f, header, set as usize);
-    let mut number = fact.number;
-    let mut u = used;
-    let mut i: u32 = 0;
-    while i < count {
+    let mut number = from;
+    for i in 0..count {
         let item = word_of(f, header, set as usize + 4 + 4 * i as usize);
-        let numbered = Fact {
-            class: fact.class,
-            of_field: fact.of_field,
-            field: fact.field,
-            kind: 2,
-            number,
+        let fact = Fact {
+            owner,
+            kind: Kind::Annotation(number),
         };
-        u = write_annotation(rt, f, header, handles, numbered, item, out, u);
+        write_annotation(rt, f, header, handles, fact, item, out)?;
         number = std::num::wrapping_add_u32(number, 1);
-        i += 1;
     }
-    Numbered { number, used: u }
+    Ok(number)
 }
 
-// The annotations of entry k, where it is the field's, numbered from a number on.
+// The annotations of entry k, where it is the field's, numbered from a number on: the number to go on with.
 fn write_entry(
     rt: &(impl Env + Print),
     f: &[u8],
     header: Header,
     handles: u32,
-    fact: Fact,
+    owner: Owner,
     directory: u32,
     k: u32,
     index: u32,
     number: u32,
-    out: &mut [u8],
-    used: usize,
-) -> Numbered {
+    out: &mut Output,
+) -> Result<u32, Stopped> {
     if entry_field(f, header, directory, k) == index {
         let set = word_of(f, header, directory as usize + 20 + 8 * k as usize);
-        let more = Fact {
-            class: fact.class,
-            of_field: true,
-            field: fact.field,
-            kind: 2,
-            number,
-        };
-        return write_set(rt, f, header, handles, more, set, out, used);
+        return write_set(rt, f, header, handles, owner, set, number, out);
     }
-    Numbered { number, used }
-}
-
-// How many entries there are from one on.
-fn left_of(count: u32, from: u32) -> u32 {
-    if from < count {
-        return count - from;
-    }
-    0
+    Ok(number)
 }
 
 // Can no entry from this one on be the field's?
 fn is_past(rising: bool, index: u32, field: u32) -> bool {
-    if rising {
-        return index < field;
-    }
-    false
+    rising && index < field
 }
 
-// The annotations of a field: of all its entries, in their order. Where the entries are in order, those of the fields before are not looked at again.
+// The annotations of a field: of all its entries, in their order. Where the entries are in order, those of the fields before are not looked at again: the entry
+// to go on with at the next field.
 pub fn write_entries(
     rt: &(impl Env + Print),
     f: &[u8],
     header: Header,
     handles: u32,
-    fact: Fact,
+    owner: Owner,
     entries: Entries,
     from: u32,
     index: u32,
-    out: &mut [u8],
-    used: usize,
-) -> Reached {
+    out: &mut Output,
+) -> Result<u32, Stopped> {
     let directory = entries.directory;
     let mut number: u32 = 0;
-    let mut u = used;
-    let mut k = from;
-    for _ in 0..left_of(entries.count, from) {
+    for k in from..entries.count {
         if is_past(entries.rising, index, entry_field(f, header, directory, k)) {
-            return Reached { entry: k, used: u };
+            return Ok(k);
         }
-        let numbered = write_entry(
-            rt, f, header, handles, fact, directory, k, index, number, out, u,
-        );
-        number = numbered.number;
-        u = numbered.used;
-        k = std::num::wrapping_add_u32(k, 1);
+        number = write_entry(
+            rt, f, header, handles, owner, directory, k, index, number, out,
+        )?;
     }
-    Reached { entry: k, used: u }
+    Ok(from.max(entries.count))
 }

@@ -1,14 +1,13 @@
 // Classes by number, and of each its annotations and its static fields.
 use super::annotations::Entries;
-use super::lines::UNREAD;
-use super::values::{Fact, Gone};
-use super::{annotations, lines, names, values};
+use super::lines::{Output, Stopped};
+use super::values::{Fact, Kind, Owner};
+use super::{annotations, names, values};
 use class_ids::Class;
 use class_members::MemberJudge;
 use header::Header;
 use refusal::Read;
 use std::env::Env;
-use text::TextPlace;
 
 // How many things there are, and where they begin.
 #[derive(Clone, Copy)]
@@ -23,7 +22,6 @@ struct Rest {
     stored: u32,
     value: usize,
     entry: u32,
-    used: usize,
 }
 
 // A count at a place, and where it ends.
@@ -63,15 +61,14 @@ fn put_flags(
     rt: &(impl Env + Print),
     f: &[u8],
     header: Header,
-    fact: Fact,
+    owner: Owner,
     flags: u32,
-    out: &mut [u8],
-    used: usize,
-) -> usize {
-    let p = values::put_owner(rt, f, header, fact, out, used);
-    let q = lines::put(rt, b"flags", out, p);
-    let r = names::put_number_column(rt, flags as u64, out, q);
-    lines::put(rt, b"\n", out, r)
+    out: &mut Output,
+) -> Result<(), Stopped> {
+    values::put_owner(rt, f, header, owner, out)?;
+    out.put(rt, b"flags")?;
+    names::put_number_column(rt, flags as u64, out)?;
+    out.put(rt, b"\n")
 }
 
 // The same, and a type.
@@ -79,15 +76,14 @@ fn put_kind(
     rt: &(impl Env + Print),
     f: &[u8],
     header: Header,
-    fact: Fact,
+    owner: Owner,
     kind: u32,
-    out: &mut [u8],
-    used: usize,
-) -> usize {
-    let p = values::put_owner(rt, f, header, fact, out, used);
-    let q = lines::put(rt, b"type", out, p);
-    let r = names::put_type_column(rt, f, header, kind, out, q);
-    lines::put(rt, b"\n", out, r)
+    out: &mut Output,
+) -> Result<(), Stopped> {
+    values::put_owner(rt, f, header, owner, out)?;
+    out.put(rt, b"type")?;
+    names::put_type_column(rt, f, header, kind, out)?;
+    out.put(rt, b"\n")
 }
 
 // The value of a field of a type, past the list.
@@ -95,58 +91,42 @@ fn put_default(
     rt: &(impl Env + Print),
     f: &[u8],
     header: Header,
-    fact: Fact,
+    owner: Owner,
     kind: u32,
-    out: &mut [u8],
-    used: usize,
-) -> usize {
-    match names::type_string(f, header, kind) {
-        Err(_) => UNREAD,
-        Ok(string) => match string_ids::string_at(f, header, string) {
-            Err(_) => UNREAD,
-            Ok(
-                TextPlace {
-                    start,
-                    length,
-                    units: _,
-                },
-            ) => {
-                let value = static_kinds::default_of(word::bytes_at(f, start, length));
-                let p = values::put_fact(rt, f, header, fact, out, used);
-                values::put_value(rt, f, header, value, out, p)
-            }
-        },
-    }
+    out: &mut Output,
+) -> Result<(), Stopped> {
+    let string = names::type_string(f, header, kind)?;
+    let value = static_kinds::default_of(names::string_bytes(f, header, string)?);
+    let fact = Fact {
+        owner,
+        kind: Kind::Default,
+    };
+    values::put_fact(rt, f, header, fact, out)?;
+    values::put_value(rt, f, header, value, out)
 }
 
-// The value of a field: the next that is stored, or the one by default.
+// The value of a field, the next that is stored or the one by default: where the next that is stored is.
 fn write_start(
     rt: &(impl Env + Print),
     f: &[u8],
     header: Header,
     handles: u32,
-    fact: Fact,
+    owner: Owner,
     kind: u32,
     array: u32,
     rest: Rest,
-    out: &mut [u8],
-    used: usize,
-) -> Gone {
+    out: &mut Output,
+) -> Result<usize, Stopped> {
     if rest.stored == 0 {
-        let missing = Fact {
-            class: fact.class,
-            of_field: true,
-            field: fact.field,
-            kind: 1,
-            number: 0,
-        };
-        return Gone {
-            next: rest.value,
-            used: put_default(rt, f, header, missing, kind, out, used),
-        };
+        put_default(rt, f, header, owner, kind, out)?;
+        return Ok(rest.value);
     }
     let w = value_heads::walk_of(header::frame_of(header, handles), array as usize);
-    values::write_value(rt, f, header, w, fact, rest.value, out, used)
+    let fact = Fact {
+        owner,
+        kind: Kind::Stored,
+    };
+    values::write_value(rt, f, header, w, fact, rest.value, out)
 }
 
 // All lines of a field: flags, type, value, annotations.
@@ -160,52 +140,29 @@ fn write_field(
     flags: u32,
     entries: Entries,
     rest: Rest,
-    out: &mut [u8],
-) -> Rest {
-    match names::field_of(f, header, index) {
-        Err(_) => Rest {
-            stored: 0,
-            value: 0,
-            entry: 0,
-            used: UNREAD,
-        },
-        Ok(m) => {
-            let fact = Fact {
-                class: c.class,
-                of_field: true,
-                field: m.name,
-                kind: 0,
-                number: 0,
-            };
-            let p = put_flags(rt, f, header, fact, flags, out, rest.used);
-            let q = put_kind(rt, f, header, fact, m.kind, out, p);
-            let gone = write_start(rt, f, header, handles, fact, m.kind, c.values, rest, out, q);
-            let reached = annotations::write_entries(
-                rt, f, header, handles, fact, entries, rest.entry, index, out, gone.used,
-            );
-            Rest {
-                stored: one_less(rest.stored),
-                value: gone.next,
-                entry: kept_entry(entries.rising, reached.entry),
-                used: reached.used,
-            }
-        }
-    }
-}
-
-fn one_less(n: u32) -> u32 {
-    if 0 < n {
-        return n - 1;
-    }
-    0
+    out: &mut Output,
+) -> Result<Rest, Stopped> {
+    let m = names::field_of(f, header, index)?;
+    let owner = Owner {
+        class: c.class,
+        field: Some(m.name),
+    };
+    put_flags(rt, f, header, owner, flags, out)?;
+    put_kind(rt, f, header, owner, m.kind, out)?;
+    let value = write_start(rt, f, header, handles, owner, m.kind, c.values, rest, out)?;
+    let entry = annotations::write_entries(
+        rt, f, header, handles, owner, entries, rest.entry, index, out,
+    )?;
+    Ok(Rest {
+        stored: rest.stored.saturating_sub(1),
+        value,
+        entry: kept_entry(entries.rising, entry),
+    })
 }
 
 // The entry to go on with: the first where they are in no order.
 fn kept_entry(rising: bool, entry: u32) -> u32 {
-    if rising {
-        return entry;
-    }
-    0
+    if rising { entry } else { 0 }
 }
 
 // The static fields of a class, each behind the one before.
@@ -216,9 +173,8 @@ fn write_fields(
     handles: u32,
     c: Class,
     entries: Entries,
-    out: &mut [u8],
-    used: usize,
-) -> usize {
+    out: &mut Output,
+) -> Result<(), Stopped> {
     let s = header::up_to_end(f, header);
     let fields = header.fields;
     let judge = MemberJudge {
@@ -232,41 +188,30 @@ fn write_fields(
         stored: list.count,
         value: list.next,
         entry: 0,
-        used,
     };
     let mut p = statics.next;
     let mut base: u32 = 0;
-    let mut later = false;
-    for _ in 0..statics.count {
-        match class_members::member_found(s, judge, c.data as usize, base, later, p) {
-            Err(_) => {
-                return UNREAD;
-            }
-            Ok(
-                Read {
-                    value: member,
-                    next,
-                },
-            ) => {
-                rest = write_field(
-                    rt,
-                    f,
-                    header,
-                    handles,
-                    c,
-                    member.index,
-                    member.flags,
-                    entries,
-                    rest,
-                    out,
-                );
-                base = member.index;
-                p = next;
-            }
-        }
-        later = true;
+    for k in 0..statics.count {
+        let Read {
+            value: member,
+            next,
+        } = class_members::member_found(s, judge, c.data as usize, base, 0 < k, p)?;
+        rest = write_field(
+            rt,
+            f,
+            header,
+            handles,
+            c,
+            member.index,
+            member.flags,
+            entries,
+            rest,
+            out,
+        )?;
+        base = member.index;
+        p = next;
     }
-    rest.used
+    Ok(())
 }
 
 // The annotations of a class.
@@ -277,21 +222,13 @@ fn write_own(
     handles: u32,
     class: u32,
     set: u32,
-    out: &mut [u8],
-    used: usize,
-) -> usize {
-    if set == 0 {
-        return used;
+    out: &mut Output,
+) -> Result<(), Stopped> {
+    if 0 < set {
+        let owner = Owner { class, field: None };
+        annotations::write_set(rt, f, header, handles, owner, set, 0, out)?;
     }
-    let fact = Fact {
-        class,
-        of_field: false,
-        field: 0,
-        kind: 2,
-        number: 0,
-    };
-    let numbered = annotations::write_set(rt, f, header, handles, fact, set, out, used);
-    numbered.used
+    Ok(())
 }
 
 // Class n.
@@ -301,19 +238,14 @@ fn write_class(
     header: Header,
     handles: u32,
     n: u32,
-    out: &mut [u8],
-    used: usize,
-) -> usize {
+    out: &mut Output,
+) -> Result<(), Stopped> {
     let classes = header.classes;
     let frame = header::frame_of(header, handles);
-    match class_ids::class_at(f, frame, header.end, classes.offset, n) {
-        Err(_) => UNREAD,
-        Ok(c) => {
-            let entries = annotations::entries_at(f, header, c.directory);
-            let p = write_own(rt, f, header, handles, c.class, entries.set, out, used);
-            write_fields(rt, f, header, handles, c, entries, out, p)
-        }
-    }
+    let c = class_ids::class_at(f, frame, header.end, classes.offset, n)?;
+    let entries = annotations::entries_at(f, header, c.directory);
+    write_own(rt, f, header, handles, c.class, entries.set, out)?;
+    write_fields(rt, f, header, handles, c, entries, out)
 }
 
 // All classes.
@@ -321,21 +253,13 @@ pub fn write_classes(
     rt: &(impl Env + Print),
     f: &[u8],
     header: Header,
-    out: &mut [u8],
-    used: usize,
-) -> usize {
-    match map_list::map_of(f, header) {
-        Err(_) => UNREAD,
-        Ok(m) => {
-            let handles = m.handles;
-            let classes = header.classes;
-            let mut u = used;
-            let mut n: u32 = 0;
-            for _ in 0..classes.count {
-                u = write_class(rt, f, header, handles.count, n, out, u);
-                n = std::num::wrapping_add_u32(n, 1);
-            }
-            u
-        }
+    out: &mut Output,
+) -> Result<(), Stopped> {
+    let m = map_list::map_of(f, header)?;
+    let handles = m.handles;
+    let classes = header.classes;
+    for n in 0..classes.count {
+        write_class(rt, f, header, handles.count, n, out)?;
     }
+    Ok(())
 }

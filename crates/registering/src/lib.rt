@@ -8,6 +8,7 @@ ghost use Rattle.registering.specs.Ends.{Ended};
 
 use checking::ROOM;
 use header::Header;
+use lines::{Output, Stopped};
 use std::env::Env;
 use std::fs::Files;
 
@@ -18,13 +19,23 @@ mod names;
 mod values;
 
 // The heading of a file that is named, and its register. Standard input has an empty name.
+fn put_register(
+    rt: &(impl Env + Print),
+    f: &[u8],
+    header: Header,
+    name: &[u8],
+) -> Result<(), Stopped> {
+    let mut out = Output::new();
+    out.put_heading(rt, name)?;
+    classes::write_classes(rt, f, header, &mut out)?;
+    out.flush(rt)
+}
+
+// Writes the register of a file, and says what it comes to.
 fn write_register(rt: &(impl Env + Print), f: &[u8], header: Header, what: &[u8], name: &[u8]) -> u8
     ensures { Ended result }
 {
-    let mut out = [0u8; lines::SPACE];
-    let start = lines::put_heading(rt, name, &mut out);
-    let used = classes::write_classes(rt, f, header, &mut out, start);
-    lines::ended(lines::flush(rt, &out, used), what)
+    lines::ended(put_register(rt, f, header, name), what)
 }
 
 // Checks an input that was read whole, and writes its register, or its refusal.
@@ -45,14 +56,13 @@ fn register_argument(
     path: &mut [u8],
     room: &mut [u8],
 ) -> u8 {
-    let input = checking::read_argument(rt, i, path, room);
-    let k = input.name;
-    let n = input.length;
-    if 0 < input.status {
-        return input.status;
+    match checking::read_argument(rt, i, path, room) {
+        Err(status) => status,
+        Ok(input) => {
+            let name = &path[..input.name];
+            register_bytes(rt, &room[..input.length], name, name)
+        }
     }
-    let name = &path[..k];
-    register_bytes(rt, &room[..n], name, name)
 }
 
 // The registers of the files that the arguments from one on name, up to a write that fails: the worst that they come to.
@@ -60,13 +70,11 @@ fn register_arguments(rt: &(impl Files + Env + Print), first: usize, count: usiz
     let mut path = io::buffer();
     let mut room = [0u8; ROOM];
     let mut worst: u8 = 0;
-    let mut i = first;
-    while i < count {
+    for i in first..count {
         worst = checking::worse(worst, register_argument(rt, i, &mut path, &mut room));
         if worst == checking::UNWRITTEN {
             return worst;
         }
-        i += 1;
     }
     worst
 }
@@ -74,12 +82,10 @@ fn register_arguments(rt: &(impl Files + Env + Print), first: usize, count: usiz
 // The register of standard input.
 fn register_standard(rt: &(impl Env + std::io::Input + Print)) -> u8 {
     let mut room = [0u8; ROOM];
-    let input = checking::read_standard(rt, &mut room);
-    let n = input.length;
-    if 0 < input.status {
-        return input.status;
+    match checking::read_standard(rt, &mut room) {
+        Err(status) => status,
+        Ok(n) => register_bytes(rt, &room[..n], b"standard input", b""),
     }
-    register_bytes(rt, &room[..n], b"standard input", b"")
 }
 
 // Of standard input, or of each file that is named from an argument on.

@@ -1,11 +1,20 @@
 // Texts by number: strings, types, and the parts of fields and methods.
-use super::lines;
-use super::lines::UNREAD;
+use super::lines::{Output, Stopped};
 use header::Header;
 use ids::MemberId;
 use refusal::Refusal;
 use std::env::Env;
 use text::TextPlace;
+
+// The bytes of string n.
+pub fn string_bytes<'a>(f: &'a [u8], header: Header, n: u32) -> Result<&'a [u8], Refusal> {
+    let TextPlace {
+        start,
+        length,
+        units: _,
+    } = string_ids::string_at(f, header, n)?;
+    Ok(word::bytes_at(f, start, length))
+}
 
 // String n.
 pub fn put_string(
@@ -14,19 +23,9 @@ pub fn put_string(
     header: Header,
     n: u32,
     key: bool,
-    out: &mut [u8],
-    used: usize,
-) -> usize {
-    match string_ids::string_at(f, header, n) {
-        Err(_) => UNREAD,
-        Ok(
-            TextPlace {
-                start,
-                length,
-                units: _,
-            },
-        ) => lines::put_text(rt, word::bytes_at(f, start, length), key, out, used),
-    }
+    out: &mut Output,
+) -> Result<(), Stopped> {
+    out.put_text(rt, string_bytes(f, header, n)?, key)
 }
 
 // The string of type n.
@@ -41,26 +40,21 @@ pub fn put_type(
     f: &[u8],
     header: Header,
     n: u32,
-    out: &mut [u8],
-    used: usize,
-) -> usize {
-    match type_string(f, header, n) {
-        Err(_) => UNREAD,
-        Ok(string) => put_string(rt, f, header, string, false, out, used),
-    }
+    out: &mut Output,
+) -> Result<(), Stopped> {
+    put_string(rt, f, header, type_string(f, header, n)?, false, out)
 }
 
 // A tab, and the text of string n.
-fn put_string_column(
+pub fn put_string_column(
     rt: &(impl Env + Print),
     f: &[u8],
     header: Header,
     n: u32,
-    out: &mut [u8],
-    used: usize,
-) -> usize {
-    let p = lines::put(rt, b"\t", out, used);
-    put_string(rt, f, header, n, false, out, p)
+    out: &mut Output,
+) -> Result<(), Stopped> {
+    out.put(rt, b"\t")?;
+    put_string(rt, f, header, n, false, out)
 }
 
 // A tab, and the text of type n.
@@ -69,17 +63,16 @@ pub fn put_type_column(
     f: &[u8],
     header: Header,
     n: u32,
-    out: &mut [u8],
-    used: usize,
-) -> usize {
-    let p = lines::put(rt, b"\t", out, used);
-    put_type(rt, f, header, n, out, p)
+    out: &mut Output,
+) -> Result<(), Stopped> {
+    out.put(rt, b"\t")?;
+    put_type(rt, f, header, n, out)
 }
 
 // A tab, and a number.
-pub fn put_number_column(rt: &(impl Env + Print), n: u64, out: &mut [u8], used: usize) -> usize {
-    let p = lines::put(rt, b"\t", out, used);
-    lines::put_number(rt, n, out, p)
+pub fn put_number_column(rt: &(impl Env + Print), n: u64, out: &mut Output) -> Result<(), Stopped> {
+    out.put(rt, b"\t")?;
+    out.put_number(rt, n)
 }
 
 // The record of field n.
@@ -101,11 +94,10 @@ fn put_member(
     f: &[u8],
     header: Header,
     m: MemberId,
-    out: &mut [u8],
-    used: usize,
-) -> usize {
-    let p = put_type_column(rt, f, header, m.class, out, used);
-    put_string_column(rt, f, header, m.name, out, p)
+    out: &mut Output,
+) -> Result<(), Stopped> {
+    put_type_column(rt, f, header, m.class, out)?;
+    put_string_column(rt, f, header, m.name, out)
 }
 
 // Class, name and type of field n.
@@ -114,16 +106,11 @@ pub fn put_field(
     f: &[u8],
     header: Header,
     n: u32,
-    out: &mut [u8],
-    used: usize,
-) -> usize {
-    match field_of(f, header, n) {
-        Err(_) => UNREAD,
-        Ok(m) => {
-            let p = put_member(rt, f, header, m, out, used);
-            put_type_column(rt, f, header, m.kind, out, p)
-        }
-    }
+    out: &mut Output,
+) -> Result<(), Stopped> {
+    let m = field_of(f, header, n)?;
+    put_member(rt, f, header, m, out)?;
+    put_type_column(rt, f, header, m.kind, out)
 }
 
 // Class, name and proto number of method n.
@@ -132,34 +119,17 @@ pub fn put_method(
     f: &[u8],
     header: Header,
     n: u32,
-    out: &mut [u8],
-    used: usize,
-) -> usize {
+    out: &mut Output,
+) -> Result<(), Stopped> {
     let protos = header.protos;
     let methods = header.methods;
-    match ids::member_at(
+    let m = ids::member_at(
         f,
         header::plain_frame(header),
         protos.count,
         methods.offset,
         n,
-    ) {
-        Err(_) => UNREAD,
-        Ok(m) => {
-            let p = put_member(rt, f, header, m, out, used);
-            put_number_column(rt, m.kind as u64, out, p)
-        }
-    }
-}
-
-// The text of string n, as a column.
-pub fn put_text_column(
-    rt: &(impl Env + Print),
-    f: &[u8],
-    header: Header,
-    n: u32,
-    out: &mut [u8],
-    used: usize,
-) -> usize {
-    put_string_column(rt, f, header, n, out, used)
+    )?;
+    put_member(rt, f, header, m, out)?;
+    put_number_column(rt, m.kind as u64, out)
 }
