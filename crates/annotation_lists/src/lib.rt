@@ -82,12 +82,9 @@ pub fn offset_count(
 ) -> Result<u32, Refusal>
     ensures { word_outcome result ≡ offset_count s.now frame item absent four }
 {
-    let count = word_at(s, frame, item, item)?;
-    if word::has_room(s.len(), item + 4, 4 * count as usize) {
-        offsets_pass(s, frame, item, absent, four, item + 4, count)?;
-        return Ok(count);
-    }
-    Err(refusal::runs_past(item))
+    let count = frame::counted(s, frame.order, item, 4)?;
+    offsets_pass(s, frame, item, absent, four, item + 4, count)?;
+    Ok(count)
 }
 
 // Number k of a list's offsets.

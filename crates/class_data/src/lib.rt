@@ -3,7 +3,7 @@
 #![tactic(auto)]
 
 ghost use Rattle.std.specs.Prelude.{◌≡◌};
-ghost use Rattle.class_data.specs.Data.{two_numbers_at, counts_at, kept_two, kept_data_at, methods_from, extent_at, methods_at, member_of_list, count_in, member_in};
+ghost use Rattle.class_data.specs.Data.{fields_judge, methods_judge, two_numbers_at, counts_at, kept_two, kept_data_at, methods_from, extent_at, methods_at, member_of_list, count_in, member_in};
 ghost use Rattle.class_data.specs.Answers.{two_numbers_outcome, counts_outcome, two_outcome, kept_data_outcome, data_outcome, member_outcome, methods_outcome};
 
 use class_members::{Member, MemberJudge};
@@ -50,6 +50,27 @@ pub struct Methods {
     pub directs: u32,
     pub virtuals: u32,
     pub from: usize,
+}
+
+// What fields are read against, and what methods are, which have code.
+fn fields_of(frame: Frame) -> MemberJudge
+    ensures { result ≡ fields_judge frame }
+{
+    MemberJudge {
+        limit: frame.fields,
+        code: false,
+        start: frame.start,
+    }
+}
+
+fn methods_of(frame: Frame) -> MemberJudge
+    ensures { result ≡ methods_judge frame }
+{
+    MemberJudge {
+        limit: frame.methods,
+        code: true,
+        start: frame.start,
+    }
 }
 
 // Two lists of one kind, one after the other.
@@ -131,26 +152,32 @@ fn kept_at(s: &[u8], frame: Frame, item: usize, k: u32) -> Result<KeptData, Refu
         value: counts,
         next,
     } = counts_at(s, item)?;
-    let fields = MemberJudge {
-        limit: frame.fields,
-        code: false,
-        start: frame.start,
-    };
     let Two {
         first: statics,
         second: instances,
         next: middle,
-    } = two_at(s, fields, item, next, counts.statics, counts.instances, k)?;
-    let methods = MemberJudge {
-        limit: frame.methods,
-        code: true,
-        start: frame.start,
-    };
+    } = two_at(
+        s,
+        fields_of(frame),
+        item,
+        next,
+        counts.statics,
+        counts.instances,
+        k,
+    )?;
     let Two {
         first: directs,
         second: virtuals,
         next: end,
-    } = two_at(s, methods, item, middle, counts.directs, counts.virtuals, k)?;
+    } = two_at(
+        s,
+        methods_of(frame),
+        item,
+        middle,
+        counts.directs,
+        counts.virtuals,
+        k,
+    )?;
     Ok(KeptData {
         counts,
         members: KeptMembers {
@@ -185,12 +212,15 @@ fn methods_from(
 ) -> Result<Methods, Refusal>
     ensures { methods_outcome result ≡ methods_from s.now frame item counts from }
 {
-    let methods = MemberJudge {
-        limit: frame.methods,
-        code: true,
-        start: frame.start,
-    };
-    two_at(s, methods, item, from, counts.directs, counts.virtuals, 0)?;
+    two_at(
+        s,
+        methods_of(frame),
+        item,
+        from,
+        counts.directs,
+        counts.virtuals,
+        0,
+    )?;
     Ok(Methods {
         directs: counts.directs,
         virtuals: counts.virtuals,
@@ -203,18 +233,13 @@ fn methods_from(
 pub fn methods_at(s: &[u8], frame: Frame, item: usize) -> Result<Methods, Refusal>
     ensures { methods_outcome result ≡ methods_at s.now frame item }
 {
-    let fields = MemberJudge {
-        limit: frame.fields,
-        code: false,
-        start: frame.start,
-    };
     let Read {
         value: counts,
         next,
     } = counts_at(s, item)?;
     let Two { next: from, .. } = two_at(
         s,
-        fields,
+        fields_of(frame),
         item,
         next,
         counts.statics,

@@ -1,13 +1,26 @@
 -- The offset rule decides what it says, and the ways out of its test.
 -- Assumes nothing.
-use Prim.Native.Nat.{ℕ, ◌%◌, ◌≤◌, ◌<◌}
-use mathlib.Core.Path.{◌≡◌, refl}
+use Prim.Native.Nat.{ℕ, ◌+◌, ◌*◌, ◌%◌, ◌≤◌, ◌<◌}
+use mathlib.Core.Path.{◌≡◌, refl, sym, subst}
 use mathlib.Core.Bool.{Bool, true, false, cond, false≢true}
-use lib.Dec.{eqb}
+use mathlib.Core.List.{List}
+use lib.ListN.{length}
+use lib.Dec.{eqb, leb}
 use borrow.Author.Rules.{rules}
+use native.Mathlib.Omega.{arith}
+use mir.Syntax.{w64}
+use mir.Val.{Fits}
 use borrow.Author.Tests.{le-leb, lt-leb, lt-ltb, le-ltb, eq-eqb, ne_eqb}
+use Rattle.refusal.specs.Refusals.{runs_past}
+use Rattle.refusal.specs.declared.Refusal.{Refusal}
+use Rattle.refusal.specs.Outcome.{Outcome, answer, refused, ◌>>=◌, given}
 use Rattle.refusal.specs.Exact.{Decides}
-use Rattle.refusal.proofs.Exact.{both, one_of, below, at_most, equal, decided_yes}
+use Rattle.refusal.proofs.Laws.{passes_by, fails_by}
+use Rattle.refusal.proofs.Exact.{both, one_of, below, at_most, equal, decided_yes, given_exact, answer_exact}
+use Rattle.word.specs.Words.{u32_at}
+use Rattle.word.specs.declared.Endian.{Endian}
+use Rattle.word.proofs.Laws.{room_there}
+use Rattle.frame.specs.Counted.{counted}
 use Rattle.frame.specs.Offsets.{allowed, allowed_or_absent, Allowed, AllowedOrAbsent}
 
 multiple_decides : (four : Bool) (x : ℕ) → Decides (cond four (eqb (x % 4) 0) true) (four ≡ true → x % 4 ≡ 0)
@@ -52,5 +65,48 @@ module _ (start end : ℕ) (four : Bool) (offset : ℕ) where
   pub present_allowed : {b : Bool} → (offset ≡ 0 → ⊥) → b ≡ allowed start end four offset → b ≡ allowed_or_absent start end four offset
   unfolding allowed_or_absent
   present_allowed n e = rw (ne_eqb offset 0 n) e
+
+-- ---- a list that was counted
+module _ (s : List ℕ) (order : Endian) (p width : ℕ) where
+  pub no_count : {b : Bool} {r : Refusal} → b ≡ leb (p + 4) (length s) → b ≡ false → r ≡ runs_past p → refused r ≡ counted s order p width
+  unfolding counted
+  no_count e t made = fails_by _ made e t
+
+  module _ {b : Bool} (e : b ≡ leb (p + 4) (length s)) (t : b ≡ true) {n : ℕ} (read : n ≡ u32_at order s p) {c : Bool} (f : c ≡ leb (p + 4 + width * n) (length s)) where
+    pub too_many : {r : Refusal} → c ≡ false → r ≡ runs_past p → refused r ≡ counted s order p width
+    unfolding counted
+    too_many u made = passes_by _ e t (rw (← read) (fails_by _ made f u))
+
+    pub count_fits : c ≡ true → answer n ≡ counted s order p width
+    unfolding counted
+    count_fits u = passes_by _ e t (rw (← read) (passes_by _ f u refl))
+
+  -- its number, and that its entries lie within the slice
+  pub record Count (n : ℕ) : Type 0 where
+    pub number : n ≡ u32_at order s p
+    pub room : p + 4 + width * n ≤ length s
+
+  pub counted_is : {n : ℕ} → answer n ≡ counted s order p width → Count n
+  unfolding counted
+  counted_is {n} e =
+      let exact = given_exact (runs_past p) (at_most (p + 4) (length s)) (given_exact (runs_past p) (at_most (p + 4 + width * u32_at order s p) (length s)) (answer_exact (u32_at order s p))) in
+      let h = exact.sound n (sym e) in
+      record { number = sym h.1.1; room = subst (λ (m : ℕ). p + 4 + width * m ≤ length s) h.1.1 h.1.0 }
+
+  pub behind_fits : {n : ℕ} → answer n ≡ counted s order p width → Fits w64 (length s) → Fits w64 (p + 4)
+  behind_fits e h = let z = (counted_is e).room in omega arith
+
+  -- what comes behind both tests
+  pub behind_count : {A : Type 0} (k : ℕ → Outcome A)
+      → given (leb (p + 4) (length s)) (runs_past p) (given (leb (p + 4 + width * u32_at order s p) (length s)) (runs_past p) (k (u32_at order s p))) ≡ (counted s order p width >>= k)
+  unfolding counted given ◌>>=◌
+  behind_count k = go (leb (p + 4) (length s)) (leb (p + 4 + width * u32_at order s p) (length s))
+    where
+      go : (a b : Bool) → given a (runs_past p) (given b (runs_past p) (k (u32_at order s p))) ≡ (given a (runs_past p) (given b (runs_past p) (answer (u32_at order s p))) >>= k)
+      go true true = refl
+      go true false = refl
+      go false b = refl
+
+pub ruleset count_laws = (no_count, too_many, count_fits, room_there, rules)
 
 pub ruleset laws = (too_low, too_high, by_multiple, anywhere, absent_allowed, present_allowed, rules)

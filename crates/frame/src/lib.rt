@@ -3,8 +3,11 @@
 #![tactic(auto)]
 
 ghost use Rattle.std.specs.Prelude.{◌≡◌};
+ghost use Rattle.refusal.specs.Answers.{as_given};
 ghost use Rattle.frame.specs.Offsets.{allowed, allowed_or_absent};
+ghost use Rattle.frame.specs.Counted.{counted};
 
+use refusal::Refusal;
 use word::Endian;
 
 #[derive(Clone, Copy)]
@@ -43,4 +46,17 @@ pub fn is_allowed_or_absent(start: usize, end: usize, four: bool, offset: usize)
         return true;
     }
     is_allowed(start, end, four, offset)
+}
+
+// How many entries of one width the list at a place has: four bytes, and then they all lie within the slice.
+pub fn counted(s: &[u8], order: Endian, at: usize, width: u32) -> Result<u32, Refusal>
+    ensures { as_given result ≡ counted s.now order at width }
+{
+    if word::has_room(s.len(), at, 4) {
+        let count = word::u32_at(s, at, order);
+        if word::has_room(s.len(), at + 4, width as usize * count as usize) {
+            return Ok(count);
+        }
+    }
+    Err(refusal::runs_past(at))
 }

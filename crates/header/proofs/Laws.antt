@@ -1,8 +1,8 @@
 -- What the functions' proofs cite, and what later crates know of a header: its tables and its data section lie within the file.
 -- Assumes nothing.
 use Prim.Native.Nat.{ℕ, ◌+◌, ◌*◌, ◌%◌, ◌^◌, ◌≤◌, ◌<◌}
-use mathlib.Core.Path.{◌≡◌, refl, sym}
-use mathlib.Core.Bool.{Bool, false}
+use mathlib.Core.Path.{◌≡◌, refl, ap, sym, ◌∙◌}
+use mathlib.Core.Bool.{Bool, true, false, ◌&&◌}
 use mathlib.Core.List.{List}
 use lib.ListN.{length, get_or, take}
 use lib.Seq.{take_all}
@@ -26,28 +26,33 @@ use Rattle.header.specs.declared.Three.{Three}
 use Rattle.header.specs.declared.Section.{Section}
 use Rattle.header.specs.Header.{four_of, four, version_at, table_allowed, table_of, table_at, section_of, section_at, joined, tables_at, body_of, body_at, order_at, versioned_at, up_to_end}
 
--- ---- four bytes
-module _ (w x y z a b c d : ℕ) where
-  pub first_differs : (w ≡ a → ⊥) → false ≡ four_of w x y z a b c d
-  unfolding four_of
-  first_differs h = rw (ne_eqb w a h)
+-- ---- four bytes: x is read for g, and t is what is asked next
+pub is_and : {x g y : ℕ} {t v : Bool} → x ≡ g → x ≡ y → v ≡ t → v ≡ (eqb g y && t)
+is_and {x} {g} {y} r e h = rw (eq-eqb g y (sym r ∙ e)) h
 
-  pub second_differs : w ≡ a → (x ≡ b → ⊥) → false ≡ four_of w x y z a b c d
-  unfolding four_of
-  second_differs p h = rw (eq-eqb w a p, ne_eqb x b h)
+pub differs_and : {x g y : ℕ} (t : Bool) {v : Bool} → x ≡ g → (x ≡ y → ⊥) → v ≡ eqb x y → v ≡ (eqb g y && t)
+differs_and {x} {g} {y} t r n h = rw (ne_eqb g y λ e. n (r ∙ e)) (h ∙ ne_eqb x y n)
 
-  pub third_differs : w ≡ a → x ≡ b → (y ≡ c → ⊥) → false ≡ four_of w x y z a b c d
-  unfolding four_of
-  third_differs p q h = rw (eq-eqb w a p, eq-eqb x b q, ne_eqb y c h)
+pub true_and : {s t v : Bool} → s ≡ true → v ≡ t → v ≡ (s && t)
+true_and e h = rw e h
 
-  pub by_fourth : w ≡ a → x ≡ b → y ≡ c → eqb z d ≡ four_of w x y z a b c d
-  unfolding four_of
-  by_fourth p q h = rw (eq-eqb w a p, eq-eqb x b q, eq-eqb y c h)
+pub false_and : {s : Bool} (t : Bool) {v : Bool} → s ≡ false → v ≡ s → v ≡ (s && t)
+false_and t e h = rw e (h ∙ e)
 
-pub four_by : (f : List ℕ) (p a b c d : ℕ) {w x y z : ℕ} {r : Bool} → w ≡ get_or f p 0 → x ≡ get_or f (p + 1) 0 → y ≡ get_or f (p + 2) 0 → z ≡ get_or f (p + 3) 0
-    → r ≡ four_of w x y z a b c d → r ≡ four f p a b c d
-unfolding four
-four_by f p a b c d e g h k s = rw (← e, ← g, ← h, ← k) s
+pub read_by : {x g : ℕ} (y : ℕ) {v : Bool} → x ≡ g → v ≡ eqb x y → v ≡ eqb g y
+read_by y r h = h ∙ ap (λ (n : ℕ). eqb n y) r
+
+regroup : (a b c d : Bool) → (((a && b) && c) && d) ≡ (a && (b && (c && d)))
+regroup true true c d = refl
+regroup true false c d = refl
+regroup false b c d = refl
+
+pub four_by : (f : List ℕ) (p a b c d : ℕ) {r u v : Bool} → r ≡ (eqb (get_or f p 0) a && eqb (get_or f (p + 1) 0) b) → u ≡ (r && eqb (get_or f (p + 2) 0) c)
+    → v ≡ (u && eqb (get_or f (p + 3) 0) d) → v ≡ four f p a b c d
+unfolding four four_of
+four_by f p a b c d r u v =
+    v ∙ ap (λ (t : Bool). t && eqb (get_or f (p + 3) 0) d) (u ∙ ap (λ (t : Bool). t && eqb (get_or f (p + 2) 0) c) r)
+    ∙ regroup (eqb (get_or f p 0) a) (eqb (get_or f (p + 1) 0) b) (eqb (get_or f (p + 2) 0) c) (eqb (get_or f (p + 3) 0) d)
 
 -- ---- tables
 module _ (len : ℕ) (shape : Shape) (count offset : ℕ) where
@@ -118,7 +123,7 @@ pub section_whole : (f : List ℕ) (h : Header) → take h.end f ≡ up_to_end f
 unfolding up_to_end
 section_whole f h = refl
 
-pub ruleset four_laws = (first_differs, second_differs, third_differs, by_fourth, four_by, calls, rules)
+pub ruleset four_laws = (calls, rules)
 
 pub ruleset table_laws = (none_there, table_low, table_uneven, table_long, table_few, product_fits, end_fits, table_by, calls, tests, rules)
 

@@ -1,8 +1,8 @@
 // The header of a DEX file: rules 1 to 6, in that order, at place 0.
 #![tactic(auto)]
 
-ghost use Rattle.std.specs.Prelude.{◌≡◌};
-ghost use Rattle.header.specs.Header.{four_of, four, version_at, order_at, table_allowed, table_at, three_at, section_at, joined, sectioned_at, tables_at, body_at, versioned_at, header_at, up_to_end, frame_of, plain_frame};
+ghost use Rattle.std.specs.Prelude.{◌≡◌, get_or};
+ghost use Rattle.header.specs.Header.{four, version_at, order_at, table_allowed, table_at, three_at, section_at, joined, sectioned_at, tables_at, body_at, versioned_at, header_at, up_to_end, frame_of, plain_frame};
 ghost use Rattle.header.specs.Answers.{order_outcome, table_outcome, three_outcome, section_outcome, header_outcome};
 
 use frame::Frame;
@@ -88,53 +88,31 @@ const CLASSES: Shape = Shape {
     most: 4294967295,
 };
 
-// Are these four bytes those four.
-fn same_four(w: u8, x: u8, y: u8, z: u8, a: u8, b: u8, c: u8, d: u8) -> bool
-    ensures { result ≡ four_of w x y z a b c d }
-{
-    if w != a {
-        return false;
-    }
-    if x != b {
-        return false;
-    }
-    if y != c {
-        return false;
-    }
-    z == d
-}
-
 // Are these the four bytes at a place.
-fn is_four(f: &[u8], at: u32, a: u8, b: u8, c: u8, d: u8) -> bool
-    ensures { result ≡ four f.now at a b c d }
+fn is_four(f: &[u8], at: u32, bytes: [u8; 4]) -> bool
+    ensures { result ≡ four f.now at (get_or bytes 0 0) (get_or bytes 1 0) (get_or bytes 2 0) (get_or bytes 3 0) }
 {
     let p = at as usize;
-    same_four(
-        word::byte_at(f, p),
-        word::byte_at(f, p + 1),
-        word::byte_at(f, p + 2),
-        word::byte_at(f, p + 3),
-        a,
-        b,
-        c,
-        d,
-    )
+    word::byte_at(f, p) == bytes[0]
+        && word::byte_at(f, p + 1) == bytes[1]
+        && word::byte_at(f, p + 2) == bytes[2]
+        && word::byte_at(f, p + 3) == bytes[3]
 }
 
 // The version that the magic names, 0 where it names none that is known.
 fn version_at(f: &[u8]) -> u32
     ensures { result ≡ version_at f.now }
 {
-    if is_four(f, 4, b'0', b'3', b'5', 0) {
+    if is_four(f, 4, [b'0', b'3', b'5', 0]) {
         return 35;
     }
-    if is_four(f, 4, b'0', b'3', b'7', 0) {
+    if is_four(f, 4, [b'0', b'3', b'7', 0]) {
         return 37;
     }
-    if is_four(f, 4, b'0', b'3', b'8', 0) {
+    if is_four(f, 4, [b'0', b'3', b'8', 0]) {
         return 38;
     }
-    if is_four(f, 4, b'0', b'3', b'9', 0) {
+    if is_four(f, 4, [b'0', b'3', b'9', 0]) {
         return 39;
     }
     0
@@ -144,10 +122,10 @@ fn version_at(f: &[u8]) -> u32
 fn order_at(f: &[u8]) -> Result<Endian, Refusal>
     ensures { order_outcome result ≡ order_at f.now }
 {
-    if is_four(f, 40, 0x78, 0x56, 0x34, 0x12) {
+    if is_four(f, 40, [0x78, 0x56, 0x34, 0x12]) {
         return Ok(Endian::Little);
     }
-    if is_four(f, 40, 0x12, 0x34, 0x56, 0x78) {
+    if is_four(f, 40, [0x12, 0x34, 0x56, 0x78]) {
         return Ok(Endian::Big);
     }
     Err(refusal::wrong_tag())
@@ -286,7 +264,7 @@ pub fn header_of(f: &[u8]) -> Result<Header, Refusal>
     if 67108864 < f.len() {
         return Err(refusal::file_too_long());
     }
-    if is_four(f, 0, 0x64, 0x65, 0x78, 0x0a) {
+    if is_four(f, 0, [0x64, 0x65, 0x78, 0x0a]) {
         return versioned(f);
     }
     Err(refusal::wrong_magic())

@@ -9,7 +9,7 @@ use lib.Dec.{ltb, leb}
 use borrow.Author.Rules.{rules}
 use borrow.Author.Tests.{lt-ltb, le-ltb, le-leb, lt-leb, eq-eqb, ne_eqb}
 use native.Mathlib.Omega.{arith}
-use Rattle.refusal.specs.Refusals.{runs_past, wrong_map, wrong_offset}
+use Rattle.refusal.specs.Refusals.{wrong_map, wrong_offset}
 use Rattle.refusal.specs.declared.Refusal.{Refusal}
 use Rattle.refusal.specs.Outcome.{Outcome, answer, refused, ◌>>=◌}
 use Rattle.refusal.specs.Rows.{Found, past, collect}
@@ -21,6 +21,9 @@ use Rattle.word.proofs.Laws.{u16_past, u32_past}
 use Rattle.header.specs.declared.Header.{Header}
 use Rattle.header.specs.declared.Table.{Table}
 use Rattle.header.specs.Header.{up_to_end}
+use Rattle.frame.specs.Counted.{counted as fits}
+use Rattle.frame.proofs.Laws.{counted_is, behind_fits, behind_count}
+use Rattle.refusal.proofs.Rows.{bind_assoc}
 use Rattle.frame.specs.Offsets.{allowed}
 use Rattle.map_list.specs.declared.MapEntry.{MapEntry}
 use Rattle.map_list.specs.declared.MapJudge.{MapJudge}
@@ -153,44 +156,34 @@ scanning_done h l =
 
 -- ---- the stages of the list
 module _ (s : List ℕ) (j : MapJudge) where
-  pub list_low : {r : Refusal} → length s < j.at → r ≡ runs_past j.at → refused r ≡ kept_list_at s j
-  unfolding kept_list_at list_at
-  list_low h made = sym (bind_refused kept (sym (fails _ made (lt-leb (j.at + 4) (length s) (omega arith)))))
+  scanned : kept_list_at s j ≡ (fits s j.order j.at 12 >>= λ (count : ℕ). scan_at s j (j.at + 4) count >>= λ (t : Table). answer (record { count = count; handles = t }))
+  unfolding kept_list_at list_at list_of scan_at ◌>>=◌
+  scanned =
+      ap (λ (o : Outcome Map). o >>= kept) (behind_count s j.order j.at 12 read)
+      ∙ bind_assoc (fits s j.order j.at 12) read kept
+      ∙ ap (λ (k : ℕ → Outcome MapList). fits s j.order j.at 12 >>= k) (λ i count. go count (collect count (step_at s j) (begin (j.at + 4))) refl i)
+    where
+      read : ℕ → Outcome Map
+      read count = collect count (step_at s j) (begin (j.at + 4)) >>= λ (r : Found (List MapEntry) Scan). answer (record { entries = r.item; handles = r.next.handles })
 
-  pub list_short : {r : Refusal} → j.at ≤ length s → length s - j.at < 4 → r ≡ runs_past j.at → refused r ≡ kept_list_at s j
-  unfolding kept_list_at list_at
-  list_short p h made = sym (bind_refused kept (sym (fails _ made (lt-leb (j.at + 4) (length s) (omega arith)))))
+      go : (count : ℕ) (o : Outcome (Found (List MapEntry) Scan)) → collect count (step_at s j) (begin (j.at + 4)) ≡ o
+          → ((o >>= λ (r : Found (List MapEntry) Scan). answer (record { entries = r.item; handles = r.next.handles })) >>= kept)
+          ≡ ((o >>= λ (r : Found (List MapEntry) Scan). answer r.next.handles) >>= λ (t : Table). answer (record { count = count; handles = t }))
+      go count (answer r) e = λ i. answer (record { count = counted s j count (j.at + 4) r e i; handles = r.next.handles })
+      go count (refused r) e = refl
 
-  module _ {count : ℕ} (read : count ≡ u32_at j.order s j.at) (p : j.at ≤ length s) (q : 4 ≤ length s - j.at) where
-    past_size : list_at s j ≡ list_of s j count
-    unfolding list_at
-    past_size = rw (← read) (sym (passes (runs_past j.at) (le-leb (j.at + 4) (length s) (omega arith)) refl))
+  pub list_uncounted : {r : Refusal} → refused r ≡ fits s j.order j.at 12 → refused r ≡ kept_list_at s j
+  list_uncounted e = sym (scanned ∙ bind_refused _ (sym e))
 
-    pub list_long : {r : Refusal} → length s - j.at - 4 < 12 * count → r ≡ runs_past j.at → refused r ≡ kept_list_at s j
-    unfolding kept_list_at list_of
-    list_long h made = sym (bind_refused kept (past_size ∙ sym (fails _ made (lt-leb (j.at + 4 + 12 * count) (length s) (omega arith)))))
+  module _ {count : ℕ} (read : answer count ≡ fits s j.order j.at 12) where
+    pub room_there : j.at + 4 + 12 * count ≤ length s
+    room_there = (counted_is s j.order j.at 12 read).room
 
-    module _ (r : 12 * count ≤ length s - j.at - 4) where
-      pub room_there : j.at + 4 + 12 * count ≤ length s
-      room_there = omega arith
+    pub list_got : {t : Table} → answer t ≡ scan_at s j (j.at + 4) count → answer (record { count = count; handles = t }) ≡ kept_list_at s j
+    list_got e = sym (scanned ∙ bind_answer _ (sym read) ∙ bind_answer _ (sym e))
 
-      scanned : kept_list_at s j ≡ (scan_at s j (j.at + 4) count >>= λ (t : Table). answer (record { count = count; handles = t }))
-      unfolding kept_list_at list_of scan_at ◌>>=◌
-      scanned =
-          ap (λ (o : Outcome Map). o >>= kept) (past_size ∙ sym (passes (runs_past j.at) (le-leb (j.at + 4 + 12 * count) (length s) room_there) refl))
-          ∙ go (collect count (step_at s j) (begin (j.at + 4))) refl
-        where
-          go : (o : Outcome (Found (List MapEntry) Scan)) → collect count (step_at s j) (begin (j.at + 4)) ≡ o
-              → ((o >>= λ (r : Found (List MapEntry) Scan). answer (record { entries = r.item; handles = r.next.handles })) >>= kept)
-              ≡ ((o >>= λ (r : Found (List MapEntry) Scan). answer r.next.handles) >>= λ (t : Table). answer (record { count = count; handles = t }))
-          go (answer r) e = λ i. answer (record { count = counted s j count (j.at + 4) r e i; handles = r.next.handles })
-          go (refused r) e = refl
-
-      pub list_got : {t : Table} → answer t ≡ scan_at s j (j.at + 4) count → answer (record { count = count; handles = t }) ≡ kept_list_at s j
-      list_got e = sym (scanned ∙ bind_answer _ (sym e))
-
-      pub list_refused : {r : Refusal} → refused r ≡ scan_at s j (j.at + 4) count → refused r ≡ kept_list_at s j
-      list_refused e = sym (scanned ∙ bind_refused _ (sym e))
+    pub list_refused : {r : Refusal} → refused r ≡ scan_at s j (j.at + 4) count → refused r ≡ kept_list_at s j
+    list_refused e = sym (scanned ∙ bind_answer _ (sym read) ∙ bind_refused _ (sym e))
 
 pub map_outside : (f : List ℕ) (h : Header) {s : List ℕ} {b : Bool} {r : Refusal} → s ≡ up_to_end f h → b ≡ allowed h.start (length s) true h.map → b ≡ false
     → r ≡ wrong_offset 0 → refused r ≡ kept_at f h
@@ -210,4 +203,4 @@ pub ruleset entry_laws = (handles_low, handles_uneven, handles_room, entry_sites
 
 pub ruleset scan_laws = (scanning_first, scanning_unknown, scanning_fail, scanning_next, scanning_done, rules)
 
-pub ruleset list_laws = (list_low, list_short, list_long, list_got, list_refused, room_there, map_outside, map_inside, calls, rules)
+pub ruleset list_laws = (list_uncounted, list_got, list_refused, room_there, behind_fits, map_outside, map_inside, calls, rules)

@@ -172,16 +172,7 @@ fn scan(s: &[u8], j: MapJudge, from: usize, count: u32) -> Result<Table, Refusal
 fn list_at(s: &[u8], j: MapJudge) -> Result<MapList, Refusal>
     ensures { map_outcome result ≡ kept_list_at s.now j }
 {
-    if s.len() < j.at {
-        return Err(refusal::runs_past(j.at));
-    }
-    if s.len() - j.at < 4 {
-        return Err(refusal::runs_past(j.at));
-    }
-    let count = word::u32_at(s, j.at, j.order);
-    if s.len() - j.at - 4 < 12 * count as usize {
-        return Err(refusal::runs_past(j.at));
-    }
+    let count = frame::counted(s, j.order, j.at, 12)?;
     let handles = scan(s, j, j.at + 4, count)?;
     Ok(MapList { count, handles })
 }

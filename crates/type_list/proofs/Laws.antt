@@ -1,6 +1,6 @@
 -- What the functions' proofs cite: an entry, the loop over all of them, and the stages of the list.
 -- Assumes nothing.
-use Prim.Native.Nat.{ℕ, zero, suc, ◌+◌, ◌-◌, ◌*◌, ◌≤◌, ◌<◌}
+use Prim.Native.Nat.{ℕ, zero, suc, ◌+◌, ◌*◌, ◌≤◌, ◌<◌}
 use mathlib.Core.Path.{◌≡◌, refl, ap, sym, ◌∙◌}
 use mathlib.Core.Bool.{cond}
 use mathlib.Core.Logic.{◌⊎◌, inl, inr}
@@ -8,17 +8,19 @@ use mathlib.Core.List.{List}
 use lib.ListN.{length}
 use lib.Dec.{ltb}
 use borrow.Author.Rules.{rules}
-use borrow.Author.Tests.{lt-ltb, le-ltb, le-leb, lt-leb}
+use borrow.Author.Tests.{lt-ltb, le-ltb}
 use native.Mathlib.Omega.{arith}
-use Rattle.refusal.specs.Refusals.{runs_past, wrong_index}
+use Rattle.refusal.specs.Refusals.{wrong_index}
 use Rattle.refusal.specs.declared.Refusal.{Refusal}
 use Rattle.refusal.specs.Outcome.{Outcome, answer, refused, ◌>>=◌, present, accepted}
 use Rattle.refusal.specs.Rows.{every}
 use Rattle.refusal.proofs.Laws.{tests, calls, passes, fails, picks, leaves, bind_answer, bind_refused}
 use Rattle.refusal.proofs.Kept.{made_kept, present_kept, absent_kept}
 use Rattle.refusal.proofs.Loops.{Numbers, numbers_first, numbers_next, numbers_stop, numbers_done}
-use Rattle.word.specs.Words.{u32_at}
 use Rattle.word.proofs.Laws.{u16_past}
+use Rattle.frame.specs.Counted.{counted as fits}
+use Rattle.frame.proofs.Laws.{behind_count}
+use Rattle.refusal.proofs.Rows.{bind_assoc}
 use Rattle.type_list.specs.declared.TypeListJudge.{TypeListJudge}
 use Rattle.header.specs.declared.Header.{Header}
 use Rattle.header.specs.Header.{up_to_end}
@@ -45,39 +47,26 @@ module _ (s : List ℕ) (j : TypeListJudge) {count k : ℕ} (h : Numbers (entry_
 
 -- ---- the stages of the list
 module _ (s : List ℕ) (j : TypeListJudge) where
-  pub list_low : {r : Refusal} → length s < j.at → r ≡ runs_past j.at → refused r ≡ count_at s j
-  unfolding count_at list_at
-  list_low h made = sym (bind_refused counted (sym (fails _ made (lt-leb (j.at + 4) (length s) (omega arith)))))
+  entries : count_at s j ≡ (fits s j.order j.at 2 >>= λ (count : ℕ). all_at s j count >>= λ (u : Unit). answer count)
+  unfolding count_at list_at list_of all_at ◌>>=◌
+  entries =
+      ap (λ (o : Outcome (List ℕ)). o >>= counted) (behind_count s j.order j.at 2 (every (entry_at s j)))
+      ∙ bind_assoc (fits s j.order j.at 2) (every (entry_at s j)) counted
+      ∙ ap (λ (k : ℕ → Outcome ℕ). fits s j.order j.at 2 >>= k) (λ i count. go count (every (entry_at s j) count) refl i)
+    where
+      go : (count : ℕ) (o : Outcome (List ℕ)) → every (entry_at s j) count ≡ o → (o >>= counted) ≡ ((o >>= accepted) >>= λ (u : Unit). answer count)
+      go count (answer l) e = ap answer (counts s j count l e)
+      go count (refused x) e = refl
 
-  pub list_short : {r : Refusal} → j.at ≤ length s → length s - j.at < 4 → r ≡ runs_past j.at → refused r ≡ count_at s j
-  unfolding count_at list_at
-  list_short p h made = sym (bind_refused counted (sym (fails _ made (lt-leb (j.at + 4) (length s) (omega arith)))))
+  pub list_uncounted : {r : Refusal} → refused r ≡ fits s j.order j.at 2 → refused r ≡ count_at s j
+  list_uncounted e = sym (entries ∙ bind_refused _ (sym e))
 
-  module _ {count : ℕ} (read : count ≡ u32_at j.order s j.at) (p : j.at ≤ length s) (q : 4 ≤ length s - j.at) where
-    past_size : list_at s j ≡ list_of s j count
-    unfolding list_at
-    past_size = rw (← read) (sym (passes (runs_past j.at) (le-leb (j.at + 4) (length s) (omega arith)) refl))
+  module _ {count : ℕ} (read : answer count ≡ fits s j.order j.at 2) where
+    pub list_got : {u : Unit} → answer u ≡ all_at s j count → answer count ≡ count_at s j
+    list_got e = sym (entries ∙ bind_answer _ (sym read) ∙ bind_answer _ (sym e))
 
-    pub list_long : {r : Refusal} → length s - j.at - 4 < 2 * count → r ≡ runs_past j.at → refused r ≡ count_at s j
-    unfolding count_at list_of
-    list_long h made = sym (bind_refused counted (past_size ∙ sym (fails _ made (lt-leb (j.at + 4 + 2 * count) (length s) (omega arith)))))
-
-    module _ (r : 2 * count ≤ length s - j.at - 4) where
-      entries : count_at s j ≡ (all_at s j count >>= λ (u : Unit). answer count)
-      unfolding count_at list_of all_at ◌>>=◌
-      entries =
-          ap (λ (o : Outcome (List ℕ)). o >>= counted) (past_size ∙ sym (passes (runs_past j.at) (le-leb (j.at + 4 + 2 * count) (length s) (omega arith)) refl))
-          ∙ go (every (entry_at s j) count) refl
-        where
-          go : (o : Outcome (List ℕ)) → every (entry_at s j) count ≡ o → (o >>= counted) ≡ ((o >>= accepted) >>= λ (u : Unit). answer count)
-          go (answer l) e = ap answer (counts s j count l e)
-          go (refused x) e = refl
-
-      pub list_got : {u : Unit} → answer u ≡ all_at s j count → answer count ≡ count_at s j
-      list_got e = sym (entries ∙ bind_answer _ (sym e))
-
-      pub list_refused : {r : Refusal} → refused r ≡ all_at s j count → refused r ≡ count_at s j
-      list_refused e = sym (entries ∙ bind_refused _ (sym e))
+    pub list_refused : {r : Refusal} → refused r ≡ all_at s j count → refused r ≡ count_at s j
+    list_refused e = sym (entries ∙ bind_answer _ (sym read) ∙ bind_refused _ (sym e))
 
 -- a list that was read in the file up to the data section's end, s
 module _ (f : List ℕ) (h : Header) (j : TypeListJudge) {s : List ℕ} {y : Outcome ℕ} where
@@ -102,6 +91,6 @@ types_by f h at e = e ∙ go (or_zero at)
 
 pub ruleset going = (entry_past, numbers_first, going_next, going_stop, going_done, rules)
 
-pub ruleset list_laws = (list_low, list_short, list_long, list_got, list_refused, calls, tests, rules)
+pub ruleset list_laws = (list_uncounted, list_got, list_refused, calls, tests, rules)
 
 pub ruleset below_laws = (count_in, types_by, calls, tests, rules)

@@ -46,16 +46,7 @@ fn all(s: &[u8], j: TypeListJudge, count: u32) -> Result<(), Refusal>
 fn count_at(s: &[u8], j: TypeListJudge) -> Result<u32, Refusal>
     ensures { count_outcome result ≡ count_at s.now j }
 {
-    if s.len() < j.at {
-        return Err(refusal::runs_past(j.at));
-    }
-    if s.len() - j.at < 4 {
-        return Err(refusal::runs_past(j.at));
-    }
-    let count = word::u32_at(s, j.at, j.order);
-    if s.len() - j.at - 4 < 2 * count as usize {
-        return Err(refusal::runs_past(j.at));
-    }
+    let count = frame::counted(s, j.order, j.at, 2)?;
     all(s, j, count)?;
     Ok(count)
 }

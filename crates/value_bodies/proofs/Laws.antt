@@ -11,7 +11,7 @@ use Rattle.refusal.specs.Refusals.{not_there}
 use Rattle.refusal.specs.declared.Refusal.{Refusal}
 use Rattle.refusal.specs.Outcome.{Outcome, answer, refused, ◌>>=◌}
 use Rattle.refusal.specs.Rows.{Found, repeat}
-use Rattle.refusal.proofs.Laws.{calls, handed_on, bind_answer, bind_refused, refused_by, Walk as Loop, walk_start, walk_next, walk_stop, walk_done}
+use Rattle.refusal.proofs.Laws.{calls, handed_on, bind_answer, bind_refused, refused_by, Walk as Loop, walk_start, walk_stop, walk_done}
 use Rattle.refusal.proofs.Exact.{answers_equal, never}
 use Rattle.refusal.proofs.Rows.{past_answer, past_refused}
 use Rattle.leb128.specs.Leb.{uleb_at}

@@ -7,11 +7,11 @@ returns-in_err-count c = search laws
 pub overflow_add-item : goal.overflow_add-item
 overflow_add-item c = search (laws, c.in_ok-count.ensures)
 
+pub offsets_pass-requires : goal.offsets_pass-requires
+offsets_pass-requires c = search (laws, c.in_ok-count.ensures)
+
 pub returns-in_err-offsets_pass : goal.returns-in_err-offsets_pass
 returns-in_err-offsets_pass c = search (laws, c.in_ok-count.ensures)
-
-pub returns-then-has_room : goal.returns-then-has_room
-returns-then-has_room c = search (laws, c.in_ok-count.ensures)
 
 pub returns : goal.returns
 returns c = search (laws, c.in_ok-count.ensures)

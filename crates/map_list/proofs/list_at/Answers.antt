@@ -1,17 +1,17 @@
 use Rattle.map_list.proofs.Laws.{list_laws as laws}
 use Rattle.map_list.proofs.list_at.Goals as goal
 
-pub returns-then-s-j : goal.returns-then-s-j
-returns-then-s-j c = search laws
+pub overflow_add-j : goal.overflow_add-j
+overflow_add-j c = search (laws, c.in_ok-count.ensures)
 
-pub returns-then-s-j-lt4 : goal.returns-then-s-j-lt4
-returns-then-s-j-lt4 c = search laws
+pub scan-requires : goal.scan-requires
+scan-requires c = search (laws, c.in_ok-count.ensures)
 
-pub returns-then-s-j-2 : goal.returns-then-s-j-2
-returns-then-s-j-2 c = search laws
+pub returns-in_err-count : goal.returns-in_err-count
+returns-in_err-count c = search laws
 
 pub returns-in_err-handles : goal.returns-in_err-handles
-returns-in_err-handles c = search laws
+returns-in_err-handles c = search (laws, c.in_ok-count.ensures)
 
 pub returns : goal.returns
-returns c = search laws
+returns c = search (laws, c.in_ok-count.ensures, c.in_ok-handles.ensures)
