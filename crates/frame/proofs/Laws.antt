@@ -1,7 +1,7 @@
 -- The offset rule decides what it says, and the ways out of its test.
 -- Assumes nothing.
 use Prim.Native.Nat.{ℕ, ◌+◌, ◌*◌, ◌%◌, ◌≤◌, ◌<◌}
-use mathlib.Core.Path.{◌≡◌, refl, sym, subst}
+use mathlib.Core.Path.{◌≡◌, refl, ap, sym, subst, ◌∙◌}
 use mathlib.Core.Bool.{Bool, true, false, cond, false≢true}
 use mathlib.Core.List.{List}
 use lib.ListN.{length}
@@ -15,7 +15,7 @@ use Rattle.refusal.specs.Refusals.{runs_past}
 use Rattle.refusal.specs.declared.Refusal.{Refusal}
 use Rattle.refusal.specs.Outcome.{Outcome, answer, refused, ◌>>=◌, given}
 use Rattle.refusal.specs.Exact.{Decides}
-use Rattle.refusal.proofs.Laws.{passes_by, fails_by}
+use Rattle.refusal.proofs.Laws.{passes, fails, refused_by}
 use Rattle.refusal.proofs.Exact.{both, one_of, below, at_most, equal, decided_yes, given_exact, answer_exact}
 use Rattle.word.specs.Words.{u32_at}
 use Rattle.word.specs.declared.Endian.{Endian}
@@ -68,18 +68,23 @@ module _ (start end : ℕ) (four : Bool) (offset : ℕ) where
 
 -- ---- a list that was counted
 module _ (s : List ℕ) (order : Endian) (p width : ℕ) where
-  pub no_count : {b : Bool} {r : Refusal} → b ≡ leb (p + 4) (length s) → b ≡ false → r ≡ runs_past p → refused r ≡ counted s order p width
-  unfolding counted
-  no_count e t made = fails_by _ made e t
-
-  module _ {b : Bool} (e : b ≡ leb (p + 4) (length s)) (t : b ≡ true) {n : ℕ} (read : n ≡ u32_at order s p) {c : Bool} (f : c ≡ leb (p + 4 + width * n) (length s)) where
-    pub too_many : {r : Refusal} → c ≡ false → r ≡ runs_past p → refused r ≡ counted s order p width
+  module _ {n : ℕ} (read : n ≡ u32_at order s p) {b : Bool} (e : b ≡ leb (p + (4 + width * n)) (length s)) where
+    pub count_fits : b ≡ true → answer n ≡ counted s order p width
     unfolding counted
-    too_many u made = passes_by _ e t (rw (← read) (fails_by _ made f u))
+    count_fits t =
+        let h : p + (4 + width * n) ≤ length s = room_there (length s) p (4 + width * n) e t in
+        rw (← read) (passes (runs_past p) (le-leb (p + 4) (length s) (omega arith)) (passes (runs_past p) (le-leb (p + 4 + width * n) (length s) (omega arith)) refl))
 
-    pub count_fits : c ≡ true → answer n ≡ counted s order p width
-    unfolding counted
-    count_fits u = passes_by _ e t (rw (← read) (passes_by _ f u refl))
+    pub no_room : {r : Refusal} → b ≡ false → r ≡ runs_past p → refused r ≡ counted s order p width
+    unfolding counted given
+    no_room {r} t made = rw (← read) (go (leb (p + 4) (length s)))
+      where
+        long : leb (p + 4 + width * n) (length s) ≡ false
+        long = let same : p + 4 + width * n ≡ p + (4 + width * n) = omega arith in ap (λ (m : ℕ). leb m (length s)) same ∙ sym e ∙ t
+
+        go : (c : Bool) → refused r ≡ given c (runs_past p) (given (leb (p + 4 + width * n) (length s)) (runs_past p) (answer n))
+        go true = fails _ made long
+        go false = refused_by made
 
   -- its number, and that its entries lie within the slice
   pub record Count (n : ℕ) : Type 0 where
@@ -107,6 +112,6 @@ module _ (s : List ℕ) (order : Endian) (p width : ℕ) where
       go true false = refl
       go false b = refl
 
-pub ruleset count_laws = (no_count, too_many, count_fits, room_there, rules)
+pub ruleset count_laws = (count_fits, no_room, rules)
 
 pub ruleset laws = (too_low, too_high, by_multiple, anywhere, absent_allowed, present_allowed, rules)

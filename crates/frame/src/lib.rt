@@ -48,15 +48,13 @@ pub fn is_allowed_or_absent(start: usize, end: usize, four: bool, offset: usize)
     is_allowed(start, end, four, offset)
 }
 
-// How many entries of one width the list at a place has: four bytes, and then they all lie within the slice.
+// How many entries of one width the list at a place has: four bytes, and then the entries. One test serves both: a word past the end is read all the same.
 pub fn counted(s: &[u8], order: Endian, at: usize, width: u32) -> Result<u32, Refusal>
     ensures { as_given result ≡ counted s.now order at width }
 {
-    if word::has_room(s.len(), at, 4) {
-        let count = word::u32_at(s, at, order);
-        if word::has_room(s.len(), at + 4, width as usize * count as usize) {
-            return Ok(count);
-        }
+    let count = word::u32_at(s, at, order);
+    if word::has_room(s.len(), at, 4 + width as usize * count as usize) {
+        return Ok(count);
     }
     Err(refusal::runs_past(at))
 }
