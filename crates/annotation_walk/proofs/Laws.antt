@@ -1,9 +1,9 @@
 -- What the proofs of the going over cite: the loops over offsets and entries, and the stages of sets, reference lists and directories.
 -- Assumes nothing.
-use Prim.Native.Nat.{ℕ, zero, suc, ◌+◌, ◌-◌, ◌*◌, ◌<◌, ◌≤◌}
+use Prim.Native.Nat.{ℕ, zero, suc, ◌+◌, ◌*◌, ◌<◌, ◌≤◌}
 use mathlib.Core.Path.{◌≡◌, refl, ap, sym, ◌∙◌}
 use mathlib.Core.Bool.{Bool, true, false}
-use mathlib.Core.Option.{Option, some}
+use mathlib.Core.Option.{Option}
 use mathlib.Core.List.{List}
 use lib.ListN.{length}
 use borrow.Author.Rules.{rules}
@@ -14,21 +14,11 @@ use Rattle.refusal.specs.declared.Refusal.{Refusal}
 use Rattle.refusal.specs.Outcome.{Outcome, answer, refused, ◌>>=◌, present, accepted}
 use Rattle.refusal.specs.Rows.{Found, in_front, collect, numbered, every}
 use Rattle.refusal.proofs.Laws.{calls, tests, absent_there, present_there}
-use Rattle.refusal.specs.Answers.{checked_outcome}
 use Rattle.refusal.proofs.Exact.{never}
 use Rattle.refusal.proofs.Kept.{accepted_answer, accepted_refused, part_answer, part_refused, kept_part, kept_on, made_kept, unit_kept, absent_kept, present_kept}
 use Rattle.word.specs.Words.{u32_at}
 use Rattle.frame.specs.declared.Frame.{Frame}
 use Rattle.annotation_directories.specs.declared.DirectoryHead.{DirectoryHead}
-use Rattle.refusal.specs.declared.CheckAnswer.{CheckAnswer}
-use Rattle.refusal.specs.declared.CheckAnswer.TheVariants as C
-use Rattle.annotation_items.specs.declared.VisibilityAnswer.{VisibilityAnswer}
-use Rattle.annotation_items.specs.declared.VisibilityAnswer.TheVariants as N
-use Rattle.annotation_directories.specs.declared.DirectoryHeadAnswer.TheVariants as H
-use Rattle.annotation_lists.specs.declared.WordAnswer.{WordAnswer}
-use Rattle.annotation_lists.specs.declared.WordAnswer.TheVariants as W
-use Rattle.annotation_lists.specs.Answers.{word_outcome}
-use Rattle.annotation_items.specs.Answers.{visibility_outcome}
 use Rattle.annotation_lists.specs.Fixed.{entries_from}
 use Rattle.annotation_lists.specs.Offsets.{offsets_at, offset_count}
 use Rattle.annotation_directories.specs.Directories.{Directory, directory_at, directory_head}
@@ -53,34 +43,34 @@ module _ (s : List ℕ) (f : Frame) {v : ℕ} (p : ℕ) where
   unfolding one_from
   at_one parameter read = ap (one_below s f parameter) read
 
-module _ (s : List ℕ) (f : Frame) {from count left at : ℕ} where
+module _ (s : List ℕ) (f : Frame) {from count k at : ℕ} where
   -- over annotation items
-  module _ (h : Along (item_from s f) s 4 from count left at) {v : ℕ} {x : VisibilityAnswer} (l : 0 < left) (read : v ≡ u32_at f.order s at) (e : visibility_outcome x ≡ item_visibility s f v) where
-    pub item_next : {n : ℕ} → x ≡ N.Got n → Along (item_from s f) s 4 from count (left - 1) (at + 4)
+  module _ (h : Along (item_from s f) s 4 from count k at) {v : ℕ} (l : k < count) (read : v ≡ u32_at f.order s at) where
+    pub item_next : {n : ℕ} → answer n ≡ item_visibility s f v → Along (item_from s f) s 4 from count (k + 1) (at + 4)
     unfolding item_visibility
-    item_next t = along_next h l (sym (part_answer (λ (a : AnnotationItem). a.visibility) (item_at s f v) (sym e ∙ ap visibility_outcome t)).1.0 ∙ at_item s f at read)
+    item_next e = along_next h l (sym (part_answer (λ (a : AnnotationItem). a.visibility) (item_at s f v) (sym e)).1.0 ∙ at_item s f at read)
 
-    pub item_stop : {B : Type 0} {r : Refusal} (k : List AnnotationItem → Outcome B) → x ≡ N.Refused r → refused r ≡ (entries_from (item_from s f) 4 from count >>= k)
+    pub item_stop : {B : Type 0} {r : Refusal} (g : List AnnotationItem → Outcome B) → refused r ≡ item_visibility s f v → refused r ≡ (entries_from (item_from s f) 4 from count >>= g)
     unfolding item_visibility
-    item_stop k t = along_stop h k l (sym (part_refused (λ (a : AnnotationItem). a.visibility) (item_at s f v) (sym e ∙ ap visibility_outcome t)) ∙ at_item s f at read)
+    item_stop g e = along_stop h g l (sym (part_refused (λ (a : AnnotationItem). a.visibility) (item_at s f v) (sym e)) ∙ at_item s f at read)
 
   -- over sets, absent ones too
-  module _ (h : Along (set_from s f) s 4 from count left at) {v : ℕ} {x : CheckAnswer} (l : 0 < left) (read : v ≡ u32_at f.order s at) (e : checked_outcome x ≡ own_accepted s f v) where
-    pub set_next : x ≡ C.Accepted → Along (set_from s f) s 4 from count (left - 1) (at + 4)
-    set_next t = along_next h l (sym (accepted_answer (present v (set_below s f v)) (sym (ap checked_outcome t) ∙ e)).1 ∙ at_set s f at read)
+  module _ (h : Along (set_from s f) s 4 from count k at) {v : ℕ} (l : k < count) (read : v ≡ u32_at f.order s at) where
+    pub set_next : answer tt ≡ own_accepted s f v → Along (set_from s f) s 4 from count (k + 1) (at + 4)
+    set_next e = along_next h l (sym (accepted_answer (present v (set_below s f v)) e).1 ∙ at_set s f at read)
 
-    pub set_stop : {B : Type 0} {r : Refusal} (k : List (Option (List AnnotationItem)) → Outcome B) → x ≡ C.Refused r → refused r ≡ (entries_from (set_from s f) 4 from count >>= k)
-    set_stop k t = along_stop h k l (sym (accepted_refused (present v (set_below s f v)) (sym (ap checked_outcome t) ∙ e)) ∙ at_set s f at read)
+    pub set_stop : {B : Type 0} {r : Refusal} (g : List (Option (List AnnotationItem)) → Outcome B) → refused r ≡ own_accepted s f v → refused r ≡ (entries_from (set_from s f) 4 from count >>= g)
+    set_stop g e = along_stop h g l (sym (accepted_refused (present v (set_below s f v)) e) ∙ at_set s f at read)
 
   -- over what entries lead to
-  module _ (parameter : Bool) (h : Along (one_from s f parameter) s 8 from count left at) {v : ℕ} {x : CheckAnswer} (l : 0 < left) (read : v ≡ u32_at f.order s (at + 4)) (e : checked_outcome x ≡ one_below s f parameter v) where
-    pub one_next : x ≡ C.Accepted → Along (one_from s f parameter) s 8 from count (left - 1) (at + 8)
-    one_next t = along_next h l (sym (ap checked_outcome t) ∙ e ∙ at_one s f at parameter read)
+  module _ (parameter : Bool) (h : Along (one_from s f parameter) s 8 from count k at) {v : ℕ} (l : k < count) (read : v ≡ u32_at f.order s (at + 4)) where
+    pub one_next : answer tt ≡ one_below s f parameter v → Along (one_from s f parameter) s 8 from count (k + 1) (at + 8)
+    one_next e = along_next h l (e ∙ at_one s f at parameter read)
 
-    pub one_stop : {B : Type 0} {r : Refusal} (k : List Unit → Outcome B) → x ≡ C.Refused r → refused r ≡ (entries_from (one_from s f parameter) 8 from count >>= k)
-    one_stop k t = along_stop h k l (sym (ap checked_outcome t) ∙ e ∙ at_one s f at parameter read)
+    pub one_stop : {B : Type 0} {r : Refusal} (g : List Unit → Outcome B) → refused r ≡ one_below s f parameter v → refused r ≡ (entries_from (one_from s f parameter) 8 from count >>= g)
+    one_stop g e = along_stop h g l (e ∙ at_one s f at parameter read)
 
-pub one_fits : {s : List ℕ} {A : Type 0} {entry : ℕ → Outcome A} {from count left at : ℕ} → Along entry s 8 from count left at → 0 < left → Fits w64 (length s) → Fits w64 (at + 4)
+pub one_fits : {s : List ℕ} {A : Type 0} {entry : ℕ → Outcome A} {from count k at : ℕ} → Along entry s 8 from count k at → k < count → Fits w64 (length s) → Fits w64 (at + 4)
 one_fits h l z = let y = along_eight h l in omega arith
 
 -- ---- only that there is an answer is kept
@@ -155,8 +145,8 @@ module _ (s : List ℕ) (f : Frame) where
   directory_by item e = e ∙ sym (kept_part (directory_at s f item) (λ (d : Directory). d.head) _ (λ (h : DirectoryHead). lists_below s f item h) (λ d t. refl))
 
 -- ---- what code adds up fits
-pub four_fits : (s : List ℕ) (f : Frame) (item : ℕ) (absent four : Bool) {x : WordAnswer} {n : ℕ} → word_outcome x ≡ offset_count s f item absent four → x ≡ W.Got n → Fits w64 (length s) → Fits w64 (item + 4)
-four_fits s f item absent four e t z = let h = count_room s f item absent four e t in omega arith
+pub four_fits : (s : List ℕ) (f : Frame) (item : ℕ) (absent four : Bool) {n : ℕ} → answer n ≡ offset_count s f item absent four → Fits w64 (length s) → Fits w64 (item + 4)
+four_fits s f item absent four e z = let h = count_room s f item absent four e in omega arith
 
 module _ (s : List ℕ) (item : ℕ) (h : DirectoryHead) (room : item + 16 + 8 * h.fields + 8 * h.methods + 8 * h.parameters ≤ length s) where
   pub fields_room : item + 16 + 8 * h.fields ≤ length s

@@ -2,7 +2,7 @@
 // stored order. Shared items are gone over each time they are reached.
 #![tactic(auto)]
 
-ghost use Rattle.std.specs.Prelude.{◌≡◌, true, false, ◌+◌, ◌*◌, ◌≤◌, length};
+ghost use Rattle.std.specs.Prelude.{◌≡◌, ◌+◌, ◌*◌, ◌≤◌, length};
 ghost use Rattle.refusal.specs.Answers.{checked_outcome};
 ghost use Rattle.annotation_walk.specs.Below.{set_accepted, references_accepted, directory_accepted};
 ghost use Rattle.annotation_walk.specs.Below.{items_pass, own_accepted, sets_pass, one_below, below_pass, lists_below};

@@ -1,22 +1,19 @@
 -- What the proofs of the going over cite: the stages of a body, of class data and of a class, and the loop over methods.
 -- Assumes nothing.
-use Prim.Native.Nat.{ℕ, suc, ◌+◌, ◌*◌, ◌-◌, ◌<◌, ◌≤◌}
+use Prim.Native.Nat.{ℕ, suc, ◌+◌, ◌*◌, ◌<◌, ◌≤◌}
 use mathlib.Core.Path.{◌≡◌, refl, ap, sym, ◌∙◌}
-use mathlib.Core.Bool.{Bool, true, false, cond}
+use mathlib.Core.Bool.{Bool, true, false}
 use mathlib.Core.Option.{Option}
 use mathlib.Core.List.{List}
 use lib.ListN.{length}
-use lib.Dec.{ltb, leb}
+use lib.Dec.{leb}
 use borrow.Author.Rules.{rules}
 use borrow.Author.Tests.{lt-ltb, le-ltb, le-leb, lt-leb}
 use native.Mathlib.Omega.{arith}
 use Rattle.refusal.specs.Refusals.{too_many_values}
 use Rattle.refusal.specs.declared.Refusal.{Refusal}
-use Rattle.refusal.specs.declared.CheckAnswer.{CheckAnswer}
-use Rattle.refusal.specs.declared.CheckAnswer.TheVariants as C
 use Rattle.refusal.specs.Outcome.{Outcome, answer, refused, ◌>>=◌, given, present, accepted}
 use Rattle.refusal.specs.Rows.{Found, past, collect, through, with_below}
-use Rattle.refusal.specs.Answers.{checked_outcome}
 use Rattle.refusal.proofs.Laws.{bind_answer, bind_refused, picks, leaves, passes, fails, tests, calls}
 use Rattle.refusal.proofs.Rows.{bind_assoc}
 use Rattle.refusal.proofs.Kept.{kept, accepted_answer, accepted_refused, kept_part, kept_on, made_kept}
@@ -24,29 +21,20 @@ use Rattle.refusal.proofs.Through.{gone_over}
 use Rattle.refusal.proofs.Loops.{Gather, gather_first, gather_next, gather_stop, gather_done}
 use Rattle.refusal.specs.Exact.{Present, absent, found_there}
 use Rattle.leb128.specs.Leb.{uleb_at}
-use Rattle.leb128.specs.Answers.{leb_outcome}
-use Rattle.leb128.specs.declared.LebAnswer.{LebAnswer}
-use Rattle.leb128.specs.declared.LebAnswer.TheVariants as L
 use Rattle.leb128.proofs.Exactly.{uleb_exact}
 use Rattle.frame.specs.declared.Frame.{Frame}
 use Rattle.header.specs.declared.Header.{Header}
 use Rattle.header.specs.Header.{up_to_end, frame_of, plain_frame}
 use Rattle.class_ids.specs.declared.Class.{Class}
 use Rattle.class_ids.specs.Classes.{class_at}
-use Rattle.class_ids.proofs.Laws.{laws as class-laws}
 use Rattle.class_members.specs.declared.Member.{Member}
 use Rattle.class_data.specs.declared.Methods.{Methods}
-use Rattle.class_members.specs.declared.MemberFoundAnswer.{MemberFoundAnswer}
-use Rattle.class_members.specs.declared.MemberFoundAnswer.TheVariants as F
-use Rattle.class_members.specs.Answers.{found_outcome}
 use Rattle.class_members.specs.Members.{Run, member_at, step_at, begin, members_at}
 use Rattle.class_data.specs.Data.{ClassData, class_data_at, methods_at, methods_judge}
 use Rattle.class_members.specs.Rules.{MembersRule}
 use Rattle.class_members.proofs.Exactly.{members_read}
 use Rattle.class_data.proofs.Exactly.{data_exact}
 use Rattle.code_item.specs.declared.Outline.{Outline}
-use Rattle.code_item.specs.declared.CodeAnswer.{CodeAnswer}
-use Rattle.code_item.specs.Answers.{code_outcome}
 use Rattle.code_bodies.specs.Code.{code_at}
 use Rattle.code_item.specs.Code.{outline, outline_at}
 use Rattle.debug_info.specs.Debug.{debug_at, extent_at}
@@ -58,8 +46,6 @@ use Rattle.encoded_value.specs.Rules.{ValueRow, no_value, next_value, ArrayBody,
 use Rattle.encoded_value.specs.Readings.{array_at, past_array}
 use Rattle.annotation_walk.specs.Below.{directory_below}
 use Rattle.type_list.specs.Below.{types_below}
-use Rattle.class_walk.specs.declared.PassedAnswer.{PassedAnswer}
-use Rattle.class_walk.specs.Answers.{passed_outcome}
 use Rattle.class_walk.specs.Methods.{Body, DataBelow, body_at, method_below, data_below, debug_accepted, methods_pass, both_pass}
 use Rattle.class_walk.specs.Classes.{ClassBelow, static_count, value_count, fitting, number_in, first_number, values_at, annotations_at, data_at, statics_at, below, class_below, below_pass, fit_pass}
 use Rattle.class_walk.specs.Rules.{DataBelowRule, ValuesRule}
@@ -82,43 +68,37 @@ going s f item = with_below (step_at s (methods_judge f) item) (method_below s f
 abbrev run_of : ℕ → ℕ → Bool → Run
 run_of p base later = record { place = p; base = base; later = later }
 
-pub record Going (s : List ℕ) (f : Frame) (item from count left p base : ℕ) (later : Bool) : Type 0 where
-  gather : Gather (going s f item) count (begin from) left (run_of p base later)
+pub record Going (s : List ℕ) (f : Frame) (item from count k p base : ℕ) (later : Bool) : Type 0 where
+  gather : Gather (going s f item) count (begin from) k (run_of p base later)
 
-pub going_first : (s : List ℕ) (f : Frame) (item from count : ℕ) → Going s f item from count count from 0 false
+pub going_first : (s : List ℕ) (f : Frame) (item from count : ℕ) → Going s f item from count 0 from 0 false
 going_first s f item from count = record { gather = gather_first (going s f item) count (begin from) }
 
-module _ {s : List ℕ} {f : Frame} {item from count left p base : ℕ} {later : Bool} (h : Going s f item from count left p base later)
-    {x : MemberFoundAnswer} (l : 0 < left) (e : found_outcome x ≡ member_at s (methods_judge f) item base later p) where
-  step_refused : {r : Refusal} → x ≡ F.Refused r → going s f item (run_of p base later) ≡ refused r
-  unfolding with_below step_at
-  step_refused t = bind_refused _ (bind_refused _ (sym e ∙ ap found_outcome t))
+module _ {s : List ℕ} {f : Frame} {item from count k p base : ℕ} {later : Bool} (h : Going s f item from count k p base later) where
+  pub going_stop : {r : Refusal} → k < count → refused r ≡ member_at s (methods_judge f) item base later p → refused r ≡ methods_pass s f item from count
+  unfolding methods_pass with_below step_at
+  going_stop l e = sym (bind_refused _ (sym (gather_stop h.gather l (sym (bind_refused past (bind_refused _ (bind_refused _ (sym e))))))))
 
-  pub going_stop : {r : Refusal} → x ≡ F.Refused r → refused r ≡ methods_pass s f item from count
-  unfolding methods_pass
-  going_stop t = sym (bind_refused _ (sym (gather_stop h.gather l (sym (bind_refused past (step_refused t))))))
-
-  module _ {m : Member} {n : ℕ} (t : x ≡ F.Got m n) where
+  module _ {m : Member} {n : ℕ} (l : k < count) (e : answer (record { item = m; next = n }) ≡ member_at s (methods_judge f) item base later p) where
     step_found : {o : Outcome (Option Body)} → method_below s f m ≡ o → going s f item (run_of p base later) ≡ (o >>= λ (b : Option Body). answer (record { item = b; next = run_of n m.index true }))
     unfolding with_below step_at
     step_found {o} q =
-        bind_answer (λ (r : Found Member Run). method_below s f r.item >>= λ (b : Option Body). answer (record { item = b; next = r.next })) (bind_answer _ (sym e ∙ ap found_outcome t))
+        bind_answer (λ (r : Found Member Run). method_below s f r.item >>= λ (b : Option Body). answer (record { item = b; next = r.next })) (bind_answer _ (sym e))
         ∙ ap (λ (z : Outcome (Option Body)). z >>= λ (b : Option Body). answer (record { item = b; next = run_of n m.index true })) q
 
-    module _ {y : CheckAnswer} (g : checked_outcome y ≡ (present m.code (body_at s f m.code) >>= accepted)) where
-      pub going_next : y ≡ C.Accepted → Going s f item from count (left - 1) n m.index true
-      unfolding method_below
-      going_next u =
-          let found = accepted_answer (present m.code (body_at s f m.code)) (sym (ap checked_outcome u) ∙ g) in
-          record { gather = gather_next h.gather l (sym (bind_answer past (step_found found.1 ∙ bind_answer _ refl))) }
+    pub going_next : answer tt ≡ (present m.code (body_at s f m.code) >>= accepted) → Going s f item from count (k + 1) n m.index true
+    unfolding method_below
+    going_next g =
+        let found = accepted_answer (present m.code (body_at s f m.code)) g in
+        record { gather = gather_next h.gather l (sym (bind_answer past (step_found found.1 ∙ bind_answer _ refl))) }
 
-      pub going_fail : {r : Refusal} → y ≡ C.Refused r → refused r ≡ methods_pass s f item from count
-      unfolding method_below methods_pass
-      going_fail u =
-          let broken = accepted_refused (present m.code (body_at s f m.code)) (sym (ap checked_outcome u) ∙ g) in
-          sym (bind_refused _ (sym (gather_stop h.gather l (sym (bind_refused past (step_found broken ∙ bind_refused _ refl))))))
+    pub going_fail : {r : Refusal} → refused r ≡ (present m.code (body_at s f m.code) >>= accepted) → refused r ≡ methods_pass s f item from count
+    unfolding method_below methods_pass
+    going_fail g =
+        let broken = accepted_refused (present m.code (body_at s f m.code)) g in
+        sym (bind_refused _ (sym (gather_stop h.gather l (sym (bind_refused past (step_found broken ∙ bind_refused _ refl))))))
 
-pub going_done : {s : List ℕ} {f : Frame} {item from count left p base : ℕ} {later : Bool} → Going s f item from count left p base later → left ≤ 0 → answer p ≡ methods_pass s f item from count
+pub going_done : {s : List ℕ} {f : Frame} {item from count k p base : ℕ} {later : Bool} → Going s f item from count k p base later → count ≤ k → answer p ≡ methods_pass s f item from count
 unfolding methods_pass
 going_done h l = let r = gather_done h.gather l in sym (bind_answer _ (sym r.1.0) ∙ ap (λ (t : Run). answer t.place) r.1.1)
 
@@ -185,14 +165,13 @@ module _ (s : List ℕ) (at : ℕ) where
   unfolding first_number
   first_absent l = leaves _ (le-ltb 0 at l) refl
 
-  module _ (l : 0 < at) {x : LebAnswer} (e : leb_outcome x ≡ uleb_at s at at) where
-    pub first_got : {v n : ℕ} → x ≡ L.Got v n → v ≡ first_number s at
-    unfolding first_number
-    first_got t = picks _ (lt-ltb 0 at l) (ap number_in (sym (ap leb_outcome t) ∙ e))
+  pub first_got : {v n : ℕ} → 0 < at → answer (record { item = v; next = n }) ≡ uleb_at s at at → v ≡ first_number s at
+  unfolding first_number
+  first_got l e = picks _ (lt-ltb 0 at l) (ap number_in e)
 
-    pub first_refused : {r : Refusal} → x ≡ L.Refused r → 0 ≡ first_number s at
-    unfolding first_number
-    first_refused t = picks _ (lt-ltb 0 at l) (ap number_in (sym (ap leb_outcome t) ∙ e))
+  pub first_refused : {r : Refusal} → 0 < at → refused r ≡ uleb_at s at at → 0 ≡ first_number s at
+  unfolding first_number
+  first_refused l e = picks _ (lt-ltb 0 at l) (ap number_in e)
 
 -- the size that an array begins with is how many values it has
 row_size : {s : List ℕ} {w : Walk} {n p q : ℕ} {l : List Tree} → ValueRow s w n p l q → n ≡ length l
@@ -268,4 +247,4 @@ pub ruleset first_laws = (first_absent, first_got, first_refused, rules)
 
 pub ruleset fit_laws = (fit_allowed, fit_refused, rules)
 
-pub ruleset laws = (class_by, class-laws, kept, calls, rules)
+pub ruleset laws = (class_by, kept, calls, rules)

@@ -157,7 +157,7 @@ fn first_number(s: &[u8], at: u32) -> u32
     }
     match leb128::uleb(s, at as usize, at as usize) {
         Err(_) => 0,
-        Ok(Read { value, next: _ }) => value,
+        Ok(Read { value, .. }) => value,
     }
 }
 

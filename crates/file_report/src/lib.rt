@@ -5,10 +5,10 @@ ghost use Rattle.std.specs.Prelude.{◌≡◌};
 ghost use Rattle.verdict.specs.Answers.{verdict_outcome};
 ghost use Rattle.file_report.specs.Input.{input_at};
 
-use refusal::Refusal;
+use verdict::Verdict;
 
 // What a program's input comes to, which has at most 65,536 bytes.
-pub fn input_verdict(f: &[u8]) -> Result<Header, Refusal>
+pub fn input_verdict(f: &[u8]) -> Verdict
     ensures { verdict_outcome result ≡ input_at f.now }
 {
     if 65536 < f.len() {

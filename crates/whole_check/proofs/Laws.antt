@@ -13,10 +13,8 @@ use Rattle.frame.specs.declared.Frame.{Frame}
 use Rattle.header.specs.declared.Header.{Header}
 use Rattle.header.specs.declared.Table.{Table}
 use Rattle.header.specs.Header.{header_at, frame_of, plain_frame}
-use Rattle.header.proofs.Laws.{laws as header-laws}
 use Rattle.map_list.specs.declared.MapList.{MapList}
 use Rattle.map_list.specs.Map.{Map, map_at, kept_at}
-use Rattle.map_list.proofs.Laws.{laws as map-laws}
 use Rattle.ids.specs.Records.{types_at}
 use Rattle.string_ids.specs.Strings.{strings_at, strings_checked}
 use Rattle.class_walk.specs.Classes as C
@@ -98,4 +96,4 @@ checked_verdict f = ap (λ (o : Outcome Unit). (o >>= λ (u : Unit). header_at f
 pub check_by : (f : List ℕ) {y : Outcome Unit} → y ≡ (verdict_at f >>= accepted) → y ≡ check_at f
 check_by f e = e ∙ checked_verdict f
 
-pub ruleset laws = (types_framed, members_framed, handles_framed, check_by, verdict_by, verdict_in_by, header-laws, map-laws, kept, calls, rules)
+pub ruleset laws = (types_framed, members_framed, handles_framed, check_by, verdict_by, verdict_in_by, kept, calls, rules)

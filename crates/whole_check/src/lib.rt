@@ -9,6 +9,7 @@ ghost use Rattle.whole_check.specs.Passes.{names_pass, records_pass, items_pass,
 
 use header::{Header, Table};
 use refusal::Refusal;
+use verdict::Verdict;
 
 mod tables;
 
@@ -57,12 +58,11 @@ fn check_in(f: &[u8], header: Header) -> Result<(), Refusal>
     ensures { checked_outcome result ≡ pass_in f.now header }
 {
     let m = map_list::map_of(f, header)?;
-    let t = m.handles;
-    tables_pass(f, header, t)
+    tables_pass(f, header, m.handles)
 }
 
 // A file with a good header: what the rest comes to.
-fn verdict_in(f: &[u8], header: Header) -> Result<Header, Refusal>
+fn verdict_in(f: &[u8], header: Header) -> Verdict
     ensures { verdict_outcome result ≡ verdict_in f.now header }
 {
     check_in(f, header)?;
@@ -70,7 +70,7 @@ fn verdict_in(f: &[u8], header: Header) -> Result<Header, Refusal>
 }
 
 // The header of an accepted file, which is read once, or the first broken rule in document 01's order.
-pub fn verdict(f: &[u8]) -> Result<Header, Refusal>
+pub fn verdict(f: &[u8]) -> Verdict
     ensures { verdict_outcome result ≡ verdict_at f.now }
 {
     let header = header::header_of(f)?;

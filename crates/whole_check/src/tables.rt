@@ -32,11 +32,10 @@ pub fn types_pass(f: &[u8], frame: Frame, offset: u32, count: u32) -> Result<(),
     let mut last: u32 = 0;
     for k in 0..count {
         let string = ids::type_at(f, frame, offset, k)?;
-        if rises(later, last, string) {
-            last = string;
-        } else {
+        if !rises(later, last, string) {
             return Err(refusal::out_of_order(place_of(offset, k)));
         }
+        last = string;
         later = true;
     }
     Ok(())

@@ -1,8 +1,8 @@
 use Rattle.class_walk.proofs.Laws.{data_laws as laws}
 use Rattle.class_walk.proofs.check_data.Goals as goal
 
-pub returns-in-Refused : goal.returns-in-Refused
-returns-in-Refused c = search laws depth 7
+pub returns-in_err-m : goal.returns-in_err-m
+returns-in_err-m c = search laws depth 7
 
-pub returns-in-Got : goal.returns-in-Got
-returns-in-Got c = search laws depth 7
+pub returns : goal.returns
+returns c = search laws depth 7

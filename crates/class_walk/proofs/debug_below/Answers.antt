@@ -4,8 +4,8 @@ use Rattle.class_walk.proofs.debug_below.Goals as goal
 pub returns-then-offset-le0 : goal.returns-then-offset-le0
 returns-then-offset-le0 c = search laws depth 7
 
-pub returns-in-Refused : goal.returns-in-Refused
-returns-in-Refused c = search laws depth 7
+pub returns-in_err-debug_at : goal.returns-in_err-debug_at
+returns-in_err-debug_at c = search laws depth 7
 
-pub returns-in-Got : goal.returns-in-Got
-returns-in-Got c = search laws depth 7
+pub returns : goal.returns
+returns c = search laws depth 7

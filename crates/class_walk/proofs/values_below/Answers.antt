@@ -6,10 +6,10 @@ pub returns-then-at-le0 : goal.returns-then-at-le0
 unfolding statics_at
 returns-then-at-le0 c = search laws depth 8
 
-pub returns-in-Refused : goal.returns-in-Refused
+pub returns-in_err-top_array : goal.returns-in_err-top_array
 unfolding statics_at
-returns-in-Refused c = search laws depth 8
+returns-in_err-top_array c = search laws depth 8
 
-pub returns-in-Next : goal.returns-in-Next
+pub returns : goal.returns
 unfolding statics_at
-returns-in-Next c = search laws depth 8
+returns c = search laws depth 8

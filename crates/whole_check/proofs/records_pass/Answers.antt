@@ -2,10 +2,10 @@ use Rattle.whole_check.proofs.Laws.{laws}
 use Rattle.whole_check.specs.Passes.{records_pass}
 use Rattle.whole_check.proofs.records_pass.Goals as goal
 
-pub returns-in-Refused : goal.returns-in-Refused
+pub returns-in_err-members_pass : goal.returns-in_err-members_pass
 unfolding records_pass
-returns-in-Refused c = search laws depth 8
+returns-in_err-members_pass c = search laws depth 8
 
-pub returns-in-Accepted : goal.returns-in-Accepted
+pub returns : goal.returns
 unfolding records_pass
-returns-in-Accepted c = search laws depth 8
+returns c = search laws depth 8

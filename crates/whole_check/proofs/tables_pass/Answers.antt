@@ -2,14 +2,14 @@ use Rattle.whole_check.proofs.Laws.{laws}
 use Rattle.whole_check.specs.Passes.{tables_pass}
 use Rattle.whole_check.proofs.tables_pass.Goals as goal
 
-pub returns-in-Refused : goal.returns-in-Refused
+pub returns-in_err-names_pass : goal.returns-in_err-names_pass
 unfolding tables_pass
-returns-in-Refused c = search laws depth 8
+returns-in_err-names_pass c = search laws depth 8
 
-pub returns-in-Refused-records_pass : goal.returns-in-Refused-records_pass
+pub returns-in_err-records_pass : goal.returns-in_err-records_pass
 unfolding tables_pass
-returns-in-Refused-records_pass c = search laws depth 8
+returns-in_err-records_pass c = search laws depth 8
 
-pub returns-in-Accepted-records_pass : goal.returns-in-Accepted-records_pass
+pub returns : goal.returns
 unfolding tables_pass
-returns-in-Accepted-records_pass c = search laws depth 8
+returns c = search laws depth 8

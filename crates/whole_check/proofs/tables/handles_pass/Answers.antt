@@ -1,17 +1,15 @@
+use Rattle.refusal.proofs.Laws.{handed_on}
 use Rattle.whole_check.proofs.TableLaws.{counting as laws}
 use Rattle.whole_check.proofs.tables.handles_pass.Goals as goal
 
-pub loop-left-init : goal.loop-left-init
-loop-left-init c = search laws
+pub loop-k-init : goal.loop-k-init
+loop-k-init c = search laws
 
-pub returns-in-Refused : goal.returns-in-Refused
-returns-in-Refused c = search laws
+pub returns-in_err-handle_pass : goal.returns-in_err-handle_pass
+returns-in_err-handle_pass c = let e = c.in_err-handle_pass.ensures in handed_on _ _ c.from_residual.ensures (search laws)
 
-pub overflow_add-k : goal.overflow_add-k
-overflow_add-k c = search laws
-
-pub loop-left-preserved : goal.loop-left-preserved
-loop-left-preserved c = search laws
+pub loop-k-preserved : goal.loop-k-preserved
+loop-k-preserved c = let e = c.in_ok-handle_pass.ensures in search laws
 
 pub returns : goal.returns
 returns c = search laws

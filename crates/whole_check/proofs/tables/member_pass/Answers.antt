@@ -1,8 +1,8 @@
 use Rattle.whole_check.proofs.TableLaws.{laws}
 use Rattle.whole_check.proofs.tables.member_pass.Goals as goal
 
-pub returns-in-Refused : goal.returns-in-Refused
-returns-in-Refused c = search laws
+pub returns-in_err-member_at : goal.returns-in_err-member_at
+returns-in_err-member_at c = search laws
 
-pub returns-in-Got : goal.returns-in-Got
-returns-in-Got c = search laws
+pub returns : goal.returns
+returns c = search laws

@@ -1,9 +1,6 @@
-use Rattle.whole_check.proofs.TableLaws.{Counting}
+use Rattle.refusal.proofs.Loops.{Numbers}
 use Rattle.ids.specs.Records.{member_id_at}
 use Rattle.whole_check.proofs.tables.members_pass.Given as goal
 
-abbrev pub invariant-loop-left : goal.invariant-loop-left
-invariant-loop-left l = Counting (member_id_at l.f l.frame l.kinds l.offset) l.count l.left l.k
-
-abbrev pub decreases-loop-left : goal.decreases-loop-left
-decreases-loop-left l = l.left
+abbrev pub invariant-loop-k : goal.invariant-loop-k
+invariant-loop-k l = Numbers (member_id_at l.f l.frame l.kinds l.offset) l.count l.k

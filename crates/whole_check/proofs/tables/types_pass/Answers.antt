@@ -1,20 +1,18 @@
+use Rattle.refusal.proofs.Laws.{handed_on}
 use Rattle.whole_check.proofs.TableLaws.{typing as laws}
 use Rattle.whole_check.proofs.tables.types_pass.Goals as goal
 
-pub loop-left-init : goal.loop-left-init
-loop-left-init c = search laws
+pub loop-k-init : goal.loop-k-init
+loop-k-init c = search laws
 
-pub returns-in-Refused : goal.returns-in-Refused
-returns-in-Refused c = search laws
+pub returns-in_err-string : goal.returns-in_err-string
+returns-in_err-string c = let e = c.in_err-string.ensures in handed_on _ _ c.from_residual.ensures (search laws)
 
-pub returns-else-rises : goal.returns-else-rises
-returns-else-rises c = search laws
+pub returns-then-not-rises : goal.returns-then-not-rises
+returns-then-not-rises c = let e = c.in_ok-string.ensures in search laws
 
-pub overflow_add-k : goal.overflow_add-k
-overflow_add-k c = search laws
-
-pub loop-left-preserved : goal.loop-left-preserved
-loop-left-preserved c = search laws
+pub loop-k-preserved : goal.loop-k-preserved
+loop-k-preserved c = let e = c.in_ok-string.ensures in search laws
 
 pub returns : goal.returns
 returns c = search laws
