@@ -26,7 +26,7 @@ fn is_kept(class: bool, i: u8, v: u32) -> bool
     true
 }
 
-// How many numbers there are.
+// How many numbers there are: counted before anything is written, since a refusal writes nothing.
 fn count_of(value: u32, class: bool) -> usize
     ensures { result ≡ length (flags class value) }
 {

@@ -50,7 +50,7 @@ fn offset_at(
     Err(refusal::wrong_offset(item))
 }
 
-// All offsets from a place on, which lie within the slice.
+// All offsets from a place on, which lie within the slice: `offset_count` has just tested that, and a struct of the three would be made for that one call.
 fn offsets_pass(
     s: &[u8],
     frame: Frame,

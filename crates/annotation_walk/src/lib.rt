@@ -11,6 +11,8 @@ use annotation_directories::DirectoryHead;
 use frame::Frame;
 use refusal::Refusal;
 
+// The three loops below are each called once, behind the test of what they require: a struct of slice, place and count would be made for the one call.
+
 // The annotation items whose offsets stand from a place on.
 fn items_pass(s: &[u8], frame: Frame, from: usize, count: u32) -> Result<(), Refusal>
     requires { from + 4 * count ≤ length s.now }

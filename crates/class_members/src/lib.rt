@@ -77,7 +77,7 @@ fn rest_at(
     })
 }
 
-// A member, after one whose index is `base`, or as the first of its list.
+// A member, after one whose index is `base`, or as the first of its list: two parameters, as `member_at` of specs/Members takes them, of which `Exact` is proved.
 pub fn member_found(
     s: &[u8],
     j: MemberJudge,

@@ -60,6 +60,7 @@ fn methods_pass(
         start: frame.start,
     };
     let mut p = from;
+    // as `member_found` takes them
     let mut base: u32 = 0;
     let mut later = false;
     for _ in 0..count {

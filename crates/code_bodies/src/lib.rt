@@ -57,6 +57,8 @@ fn is_try_allowed(units: u32, floor: u64, t: Try) -> bool
     start + t.count as u64 <= units as u64
 }
 
+// The five functions below are stages of one body, each called once: `body_at` tests what they require, and a struct of it would be handed on through memory.
+
 // All tries, of which number k is kept.
 fn tries_found(
     s: &[u8],

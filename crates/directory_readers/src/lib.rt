@@ -88,6 +88,8 @@ fn entry_of(f: &[u8], c: u32, list: u32, k: u32) -> Result<DirectoryEntry, Refus
     entry_in(f, d.header, d.place, list, k)
 }
 
+// Three names for one function, since C has three.
+
 // Field entry k of class c: the field, and where its set is.
 pub fn field_entry(f: &[u8], c: u32, k: u32) -> Result<DirectoryEntry, Refusal>
     ensures { directory_entry_outcome result ≡ entry_number f.now c 0 k }

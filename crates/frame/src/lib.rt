@@ -10,6 +10,7 @@ ghost use Rattle.frame.specs.Counted.{counted};
 use refusal::Refusal;
 use word::Endian;
 
+// The slice goes beside it: what holds both, one opened file, is a request of document 02, with a form of its own.
 #[derive(Clone, Copy)]
 pub struct Frame {
     pub order: Endian,

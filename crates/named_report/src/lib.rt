@@ -27,7 +27,7 @@ fn heading_size(name: &[u8]) -> usize
     0
 }
 
-// A text from a place on, where there is room for it; the place after it.
+// A text from a place on, where there is room for it; the place after it. Not `report`'s: a public one would have to answer for a room that is too short.
 fn put(text: &[u8], out: &mut [u8], at: usize) -> usize
     requires { at + length text.now ≤ length out.old }
     ensures { Stored text.now at out.old out.new result }

@@ -48,6 +48,13 @@ struct Entered {
     at: usize,
 }
 
+// A body that is open: the step of the value in it that was entered last, and how many are left.
+#[derive(Clone, Copy)]
+struct Open {
+    step: Step,
+    left: u32,
+}
+
 // A body that a value opens: how many values are in it, and whether each has a name.
 #[derive(Clone, Copy)]
 struct Body {
@@ -124,12 +131,12 @@ fn put_key(
     f: &[u8],
     header: Header,
     fact: Fact,
-    steps: &[Step],
+    open: &[Open],
     out: &mut Output,
 ) -> Result<(), Stopped> {
     put_fact(rt, f, header, fact, out)?;
-    for step in steps {
-        put_step(rt, f, header, *step, out)?;
+    for body in open {
+        put_step(rt, f, header, body.step, out)?;
     }
     Ok(())
 }
@@ -371,9 +378,16 @@ fn enter(s: &[u8], w: Walk, step: Step, at: usize) -> Result<Entered, Stopped> {
     }
 }
 
-// The step before the first of a body.
-fn opened(named: bool) -> Step {
-    if named { Step::Named(0) } else { Step::Nth(0) }
+// A body before its first value.
+fn opened(body: Body) -> Open {
+    Open {
+        step: if body.named {
+            Step::Named(0)
+        } else {
+            Step::Nth(0)
+        },
+        left: body.count,
+    }
 }
 
 // The values of the bodies that are open, and all that is in them: where they end. Each lies behind the one before, which is tested; a body that ends closes a
@@ -384,8 +398,7 @@ fn write_open(
     header: Header,
     w: Walk,
     fact: Fact,
-    steps: &mut [Step; STEPS],
-    left: &mut [u32; STEPS],
+    open: &mut [Open; STEPS],
     from: usize,
     out: &mut Output,
 ) -> Result<usize, Stopped> {
@@ -395,14 +408,14 @@ fn write_open(
     // `while`: how deep it stands goes up and down.
     while 0 < depth {
         let top = depth - 1;
-        if left[top] == 0 {
+        if open[top].left == 0 {
             depth = top;
             continue;
         }
-        left[top] -= 1;
-        let entered = enter(header::up_to_end(f, header), w, steps[top], p)?;
-        steps[top] = entered.step;
-        put_key(rt, f, header, fact, &steps[..depth], out)?;
+        open[top].left -= 1;
+        let entered = enter(header::up_to_end(f, header), w, open[top].step, p)?;
+        open[top].step = entered.step;
+        put_key(rt, f, header, fact, &open[..depth], out)?;
         let shown = show(rt, f, header, w, entered.at, out)?;
         let next = shown.next;
         if next <= p {
@@ -416,8 +429,7 @@ fn write_open(
             if STEPS <= depth {
                 return Err(Stopped::Unread);
             }
-            steps[depth] = opened(body.named);
-            left[depth] = body.count;
+            open[depth] = opened(body);
             depth += 1;
         }
     }
@@ -436,10 +448,8 @@ pub fn write_values(
     from: usize,
     out: &mut Output,
 ) -> Result<usize, Stopped> {
-    let mut steps = [opened(named); STEPS];
-    let mut left = [0u32; STEPS];
-    left[0] = count;
-    write_open(rt, f, header, w, fact, &mut steps, &mut left, from, out)
+    let mut open = [opened(Body { named, count }); STEPS];
+    write_open(rt, f, header, w, fact, &mut open, from, out)
 }
 
 // The value at a place, with the front of its line, and all that is in it: where it ends.

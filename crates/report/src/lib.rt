@@ -23,7 +23,7 @@ fn put_byte(b: u8, out: &mut [u8], at: usize) -> usize
     at + 1
 }
 
-// A text, where there is room for it.
+// A text, where there is room for it. What puts requires the room: the public functions have made it, or tested it.
 fn put(text: &[u8], out: &mut [u8], at: usize) -> usize
     requires { at + length text.now ≤ length out.old }
     ensures { Stored text.now at out.old out.new result }

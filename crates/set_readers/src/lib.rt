@@ -133,6 +133,8 @@ fn place_of(f: &[u8], set: Result<Reached, Refusal>, k: u32) -> Result<u32, Refu
     set_number(f, reached.header, reached.place, k)
 }
 
+// Eight names for two functions, since C has eight.
+
 // How many annotations class c has.
 pub fn class_annotation_count(f: &[u8], c: u32) -> Result<u32, Refusal>
     ensures { word_outcome result ≡ annotation_count f.now (class_set f.now c) }

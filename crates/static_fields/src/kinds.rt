@@ -128,6 +128,7 @@ fn wrong_from(
     let s = header::up_to_end(f, header);
     let judge = fields_judge(header);
     let mut p = from;
+    // as `member_found` takes them
     let mut base: u32 = 0;
     let mut later = false;
     let mut q = first;

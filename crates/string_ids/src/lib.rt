@@ -90,7 +90,7 @@ pub fn check_strings(f: &[u8], header: Header) -> Result<(), Refusal>
     Ok(())
 }
 
-// The same going over, with the number of the string that is the text: one pass.
+// The same going over, with the number of the string that is the text: one pass. A step shared by both loops cost 4 to 9 % (docs/DECISIONS.md).
 pub fn look_up(f: &[u8], header: Header, text: &[u8]) -> Result<Option<u32>, Refusal>
     ensures { lookup_outcome result ≡ looked_up f.now header text.now }
 {

@@ -24,6 +24,8 @@ pub struct TextPlace {
     pub units: u32,
 }
 
+// The functions below are asked where `count_at` has just looked at the byte at `p`: a struct of slice and place would be made for each call and taken apart in it.
+
 // A form of two bytes: 9 where the second is not there, 14 where it does not follow or one byte is enough.
 fn two_at(s: &[u8], item: usize, p: usize) -> Result<Read<u32>, Refusal>
     requires { p < length s.now }

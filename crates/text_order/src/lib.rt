@@ -16,7 +16,7 @@ fn key_of(b: u8) -> u32
     b as u32 + 1
 }
 
-// Which of two bytes that differ comes first.
+// Which of two bytes that differ comes first. Not `cmp`: of equal bytes it says Equal, and `earlier` says Greater.
 fn earlier_of(a: u8, b: u8) -> Ordering
     ensures { result ≡ earlier a b }
 {

@@ -7,7 +7,7 @@ use frame::Frame;
 use header::Header;
 use refusal::Refusal;
 
-// Does a type's string come after the last one, if there was one.
+// Does a type's string come after the last one, if there was one: two parameters, as `rising` of specs/Passes takes them.
 fn rises(later: bool, last: u32, string: u32) -> bool
     ensures { result ≡ rising later last string }
 {

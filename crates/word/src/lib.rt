@@ -46,6 +46,8 @@ pub fn bytes_at(slice: &[u8], start: usize, length: usize) -> &[u8]
     &slice[start..end]
 }
 
+// Two and four bytes each have their functions: a trait of the two widths would carry five members for two types, and be no plainer.
+
 // Two bytes as one number.
 fn u16_of(order: Endian, a: u8, b: u8) -> u16
     ensures { result ≡ u16_of order a b }
