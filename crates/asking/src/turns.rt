@@ -7,14 +7,14 @@ use super::{Turn, questions};
 use word::Endian;
 
 // The bytes that are asked about.
-pub fn bytes_of(room: &[u8], t: Turn) -> &[u8]
+fn bytes_of(room: &[u8], t: Turn) -> &[u8]
     ensures { result.now ≡ part room.now t.start t.length }
 {
     word::bytes_at(room, t.start as usize, t.length as usize)
 }
 
 // The questions, from the one whose turn it is.
-pub fn asked_of(room: &[u8], t: Turn) -> &[u8]
+fn asked_of(room: &[u8], t: Turn) -> &[u8]
     ensures { result.now ≡ part room.now t.at (t.end - t.at) }
 {
     if t.end < t.at {
@@ -89,14 +89,14 @@ fn first_of(room: &mut [u8], cases: u32, front: u8) -> Turn
 }
 
 // How many cases there are, and the first question.
-pub fn first(room: &mut [u8], front: u8) -> Turn {
+fn first(room: &mut [u8], front: u8) -> Turn {
     let mut count = [0u8; 4];
     io::read_full(0, &mut count);
     first_of(room, word::u32_at(&count, 0, Endian::Little), front)
 }
 
 // An answer's line ends, and the next question comes: of the same case, or of a later one.
-pub fn next(room: &mut [u8], t: Turn, front: u8) -> Turn
+fn next(room: &mut [u8], t: Turn, front: u8) -> Turn
     ensures { to_go result ≤ to_go t - 1 }
 {
     io::write_all(1, b"\n");
@@ -114,4 +114,17 @@ pub fn next(room: &mut [u8], t: Turn, front: u8) -> Turn
         }
     }
     first_of(room, t.left, front)
+}
+
+// Each question about each case, in their order, handed to a function: the bytes that are asked about, and the questions from that one on. A case with its questions is read at a time.
+pub fn each<F: Fn(&[u8], &[u8])>(front: u8, answer: F)
+    requires { F.IsAlwaysCallable answer }
+{
+    let mut room = io::large_buffer();
+    let mut turn = first(&mut room, front);
+    // `while`: how many questions there are is known when the last is read.
+    while turn.at < turn.end {
+        answer(bytes_of(&room, turn), asked_of(&room, turn));
+        turn = next(&mut room, turn, front);
+    }
 }

@@ -9,15 +9,14 @@ mod outputs;
 mod paths;
 mod reasons;
 
-pub use outputs::{close_output, write_output};
-pub use reasons::tell_why;
+pub use outputs::write_output;
 use std::env::{Env, FillError};
 use std::fs::Files;
 use std::io::Read;
 use verdict::Verdict;
 
 // One byte more than is taken, so that an input that is too long is known to be.
-pub const ROOM: usize = 65537;
+const ROOM: usize = 65537;
 
 // Room for the line of the longest path, 4,096 bytes and 6, and for the longest report, 288.
 const OUT: usize = 4390;
@@ -34,13 +33,13 @@ pub const UNWRITTEN: u8 = 3;
 
 // An input that was read: how many bytes its name has and it has. In its place, as an error, what one comes to that was not read.
 #[derive(Clone, Copy)]
-pub struct Input {
-    pub name: usize,
-    pub length: usize,
+struct Input {
+    name: usize,
+    length: usize,
 }
 
 // The worse of two.
-pub fn worse(a: u8, b: u8) -> u8
+fn worse(a: u8, b: u8) -> u8
     ensures { result ≡ max a b }
 {
     if a < b { b } else { a }
@@ -121,7 +120,7 @@ pub fn write_report(rt: &(impl Env + Print), verdict: Verdict, what: &[u8], name
     }
 }
 
-// Checks an input that was read whole.
+// Checks an input that was read whole, and writes its report.
 fn check_bytes(rt: &(impl Env + Print), f: &[u8], what: &[u8], name: &[u8]) -> u8
     ensures { Comes f.now result }
 {
@@ -170,7 +169,7 @@ fn read_whole(from: &mut impl Read, what: &[u8], room: &mut [u8]) -> Result<usiz
 }
 
 // Standard input: how many bytes it has.
-pub fn read_standard(rt: &impl std::io::Input, room: &mut [u8]) -> Result<usize, u8>
+fn read_standard(rt: &impl std::io::Input, room: &mut [u8]) -> Result<usize, u8>
     ensures { IfOk result (λ n. n ≤ length room.old) }
 {
     read_whole(&mut rt.reader(), b"standard input", room)
@@ -190,7 +189,7 @@ fn read_file(rt: &(impl Files + Env), i: usize, name: &[u8], room: &mut [u8]) ->
 }
 
 // The file that argument i names, and its name, into lent rooms.
-pub fn read_argument(
+fn read_argument(
     rt: &(impl Files + Env),
     i: usize,
     path: &mut [u8],
@@ -210,29 +209,39 @@ pub fn read_argument(
     }
 }
 
-// Checks the file that argument i names.
-fn check_argument(
-    rt: &(impl Files + Env + Print),
+// What the file that argument i names comes to.
+fn argument<F: Fn(&[u8], &[u8], &[u8]) -> u8>(
+    rt: &(impl Files + Env),
+    on_input: &F,
     i: usize,
     path: &mut [u8],
     room: &mut [u8],
-) -> u8 {
+) -> u8
+    requires { F.IsAlwaysCallable on_input.now }
+{
     match read_argument(rt, i, path, room) {
         Err(status) => status,
         Ok(input) => {
             let name = &path[..input.name];
-            check_bytes(rt, &room[..input.length], name, name)
+            on_input(&room[..input.length], name, name)
         }
     }
 }
 
-// Checks the files that the arguments from i on name, up to a write that fails: the worst that they come to.
-fn check_arguments(rt: &(impl Files + Env + Print), first: usize, count: usize) -> u8 {
+// What the files that the arguments from one on name come to, up to a write that fails: the worst of it.
+fn arguments<F: Fn(&[u8], &[u8], &[u8]) -> u8>(
+    rt: &(impl Files + Env),
+    on_input: &F,
+    first: usize,
+    count: usize,
+) -> u8
+    requires { F.IsAlwaysCallable on_input.now }
+{
     let mut path = io::buffer();
     let mut room = [0u8; ROOM];
     let mut worst: u8 = 0;
     for i in first..count {
-        worst = worse(worst, check_argument(rt, i, &mut path, &mut room));
+        worst = worse(worst, argument(rt, on_input, i, &mut path, &mut room));
         if worst == UNWRITTEN {
             return worst;
         }
@@ -240,17 +249,19 @@ fn check_arguments(rt: &(impl Files + Env + Print), first: usize, count: usize) 
     worst
 }
 
-// Checks standard input.
-fn check_standard(rt: &(impl Env + std::io::Input + Print)) -> u8 {
+// What standard input comes to.
+fn standard<F: Fn(&[u8], &[u8], &[u8]) -> u8>(rt: &impl std::io::Input, on_input: &F) -> u8
+    requires { F.IsAlwaysCallable on_input.now }
+{
     let mut room = [0u8; ROOM];
     match read_standard(rt, &mut room) {
         Err(status) => status,
-        Ok(n) => check_bytes(rt, &room[..n], b"standard input", b""),
+        Ok(n) => on_input(&room[..n], b"standard input", b""),
     }
 }
 
 // Is the exit status asked for? An empty first argument does so: it names no file.
-pub fn is_asked(rt: &impl Env) -> bool {
+fn is_asked(rt: &impl Env) -> bool {
     let mut word = [0u8; 1];
     match rt.arg(1, &mut word) {
         Err(_) => false,
@@ -259,14 +270,14 @@ pub fn is_asked(rt: &impl Env) -> bool {
 }
 
 // Writes the exit status to its descriptor.
-pub fn tell(status: u8) {
+fn tell(status: u8) {
     if !io::write_all(STATUS_FILENO, &[digit_of(status)]) {
         io::write_all(STDERR_FILENO, b"exit status: it could not be written\n");
     }
 }
 
 // How many arguments there are, the program's own name with them.
-pub fn argument_count(rt: &impl Env) -> usize {
+fn argument_count(rt: &impl Env) -> usize {
     let mut word = [0u8; 1];
     for i in 0..usize::MAX {
         if let Err(FillError::NotPresent) = rt.arg(i, &mut word) {
@@ -276,20 +287,36 @@ pub fn argument_count(rt: &impl Env) -> usize {
     usize::MAX
 }
 
-// Checks standard input, or each file that is named from an argument on.
-fn check_from(rt: &(impl Files + Env + std::io::Input + Print), first: usize) -> u8 {
+// What standard input comes to, or each file that is named from an argument on.
+fn inputs<F: Fn(&[u8], &[u8], &[u8]) -> u8>(
+    rt: &(impl Files + Env + std::io::Input),
+    on_input: &F,
+    first: usize,
+) -> u8
+    requires { F.IsAlwaysCallable on_input.now }
+{
     let count = argument_count(rt);
     if count <= first {
-        return check_standard(rt);
+        return standard(rt, on_input);
     }
-    check_arguments(rt, first, count)
+    arguments(rt, on_input, first, count)
 }
 
-// The program.
-pub fn run(rt: &(impl Files + Env + std::io::Input + Print)) {
+// A program that reads inputs: what it does with one that was read whole is handed to it. That takes the input's bytes, what is said of it on standard error and its name, and says what it comes to.
+pub fn run_with<F: Fn(&[u8], &[u8], &[u8]) -> u8>(
+    rt: &(impl Files + Env + std::io::Input),
+    on_input: F,
+)
+    requires { F.IsAlwaysCallable on_input }
+{
     if is_asked(rt) {
-        tell(outputs::close_output(rt, check_from(rt, 2)));
+        tell(outputs::close_output(rt, inputs(rt, &on_input, 2)));
     } else {
-        outputs::close_output(rt, check_from(rt, 1));
+        outputs::close_output(rt, inputs(rt, &on_input, 1));
     }
+}
+
+// The program that checks.
+pub fn run(rt: &(impl Files + Env + std::io::Input + Print)) {
+    run_with(rt, |f, what, name| check_bytes(rt, f, what, name));
 }

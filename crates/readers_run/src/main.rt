@@ -14,10 +14,5 @@ mod values;
 
 // Each question about each file. A file with its questions is read at a time.
 fn main() {
-    let mut room = io::large_buffer();
-    let mut turn = asking::first(&mut room, 0);
-    while turn.at < turn.end {
-        questions::answer(asking::bytes_of(&room, turn), asking::asked_of(&room, turn));
-        turn = asking::next(&mut room, turn, 0);
-    }
+    asking::each(0, questions::answer);
 }
