@@ -1,11 +1,11 @@
 -- What the functions' proofs cite: the ways through the table, by a letter and by a kind.
 -- Assumes nothing.
-use Prim.Native.Nat.{ℕ, zero, suc, ◌<◌, ◌≤◌}
+use Prim.Native.Nat.{ℕ, ◌<◌, ◌≤◌}
 use mathlib.Core.Path.{◌≡◌, refl, ap, sym, ◌∙◌}
 use mathlib.Core.Bool.{Bool, true, false, cond, ◌&&◌}
 use mathlib.Core.List.{List, [], ◌∷◌}
 use lib.ListN.{length, get_or}
-use lib.Dec.{leb, eqb}
+use lib.Dec.{eqb}
 use lib.IntN.{pos}
 use lib.Ieee.{of_bits, binary32, binary64}
 use borrow.Author.Rules.{rules}
@@ -173,9 +173,13 @@ module _ (called kind : ℕ) where
     unfolding suits
     suits_low h = rw (eq-eqb called 0x1e n, lt-leb 0x15 kind h)
 
-    pub suits_high : 0x15 ≤ kind → leb kind 0x1e ≡ suits called kind
+    pub suits_high : 0x1e < kind → false ≡ suits called kind
     unfolding suits
-    suits_high h = rw (eq-eqb called 0x1e n, le-leb 0x15 kind h)
+    suits_high h = rw (eq-eqb called 0x1e n, le-leb 0x15 kind (omega arith), lt-leb kind 0x1e h)
+
+    pub suits_any : 0x15 ≤ kind → kind ≤ 0x1e → true ≡ suits called kind
+    unfolding suits
+    suits_any l h = rw (eq-eqb called 0x1e n, le-leb 0x15 kind l, le-leb kind 0x1e h)
 
   pub suits_own : (called ≡ 0x1e → ⊥) → eqb kind called ≡ suits called kind
   unfolding suits
@@ -191,4 +195,4 @@ pub ruleset unset_laws = (unset_boolean, unset_byte, unset_short, unset_char, un
 
 pub ruleset text_laws = (one_letter, not_one, some_byte, default_by, fits_by, rules)
 
-pub ruleset suits_laws = (suits_low, suits_high, suits_own, rules)
+pub ruleset suits_laws = (suits_low, suits_high, suits_any, suits_own, rules)

@@ -8,34 +8,21 @@ ghost use Rattle.static_kinds.specs.Kinds.{kind_called, default, suits, fits, un
 use decoded_value::Value;
 
 // The kind that a text of one letter takes, null's for any other.
+// Kinds stay the numbers of document 01's table: the C interface hands them out, and `shown` in specs says them.
 fn letter_kind(letter: u8) -> u8
     ensures { result ≡ kind_called (letter ∷ []) }
 {
-    if letter == 0x5a {
-        return 0x1f;
+    match letter {
+        0x5a => 0x1f,
+        0x42 => 0x00,
+        0x53 => 0x02,
+        0x43 => 0x03,
+        0x49 => 0x04,
+        0x4a => 0x06,
+        0x46 => 0x10,
+        0x44 => 0x11,
+        _ => 0x1e,
     }
-    if letter == 0x42 {
-        return 0x00;
-    }
-    if letter == 0x53 {
-        return 0x02;
-    }
-    if letter == 0x43 {
-        return 0x03;
-    }
-    if letter == 0x49 {
-        return 0x04;
-    }
-    if letter == 0x4a {
-        return 0x06;
-    }
-    if letter == 0x46 {
-        return 0x10;
-    }
-    if letter == 0x44 {
-        return 0x11;
-    }
-    0x1e
 }
 
 // The kind that a text takes: texts are compared whole.
@@ -52,37 +39,23 @@ pub fn kind_called(text: &[u8]) -> u8
 fn unset_by(kind: u8) -> Value
     ensures { value_shown result ≡ unset_by kind }
 {
-    if kind == 0x1f {
-        return Value::Boolean(false);
-    }
-    if kind == 0x00 {
-        return Value::Byte(0);
-    }
-    if kind == 0x02 {
-        return Value::Short(0);
-    }
-    if kind == 0x03 {
-        return Value::Char(0);
-    }
-    if kind == 0x04 {
-        return Value::Int(0);
-    }
-    if kind == 0x06 {
-        return Value::Long(0);
-    }
-    if kind == 0x10 {
-        return Value::Float {
+    match kind {
+        0x1f => Value::Boolean(false),
+        0x00 => Value::Byte(0),
+        0x02 => Value::Short(0),
+        0x03 => Value::Char(0),
+        0x04 => Value::Int(0),
+        0x06 => Value::Long(0),
+        0x10 => Value::Float {
             bits: 0,
             value: 0.0,
-        };
-    }
-    if kind == 0x11 {
-        return Value::Double {
+        },
+        0x11 => Value::Double {
             bits: 0,
             value: 0.0,
-        };
+        },
+        _ => Value::Null,
     }
-    Value::Null
 }
 
 // The value of a static field of this type for which none is stored.
@@ -96,13 +69,10 @@ pub fn default_of(text: &[u8]) -> Value
 fn is_suited(called: u8, kind: u8) -> bool
     ensures { result ≡ suits called kind }
 {
-    if called == 0x1e {
-        if kind < 0x15 {
-            return false;
-        }
-        return kind <= 0x1e;
+    match called {
+        0x1e => matches!(kind, 0x15..=0x1e),
+        _ => kind == called,
     }
-    kind == called
 }
 
 // May a static field of this type have a value of this kind.

@@ -8,7 +8,7 @@ use lib.ListN.{length}
 use lib.Dec.{leb, ltb}
 use native.Mathlib.Omega.{arith}
 use borrow.Author.Rules.{rules}
-use borrow.Author.Tests.{le-leb, lt-leb, eq-eqb, ne_eqb}
+use borrow.Author.Tests.{le-leb, lt-leb, lt-ltb, le-ltb, eq-eqb, ne_eqb}
 use mir.Syntax.{w8, w64}
 use mir.Val.{Fits}
 use Rattle.refusal.specs.Refusals.{runs_past}
@@ -30,9 +30,13 @@ use Rattle.value_heads.proofs.Exactly.{head_exact}
 
 -- ---- the table
 module _ (code : ℕ) where
-  pub index_high : 0x15 ≤ code → ltb code 0x1c ≡ is_index code
+  pub index_any : 0x15 ≤ code → code ≤ 0x1b → true ≡ is_index code
   unfolding is_index
-  index_high h = rw (le-leb 0x15 code h)
+  index_any l h = rw (le-leb 0x15 code l, lt-ltb code 0x1c (omega arith))
+
+  pub index_high : 0x1b < code → false ≡ is_index code
+  unfolding is_index
+  index_high h = rw (le-leb 0x15 code (omega arith), le-ltb code 0x1c (omega arith))
 
   pub index_low : code < 0x15 → false ≡ is_index code
   unfolding is_index
@@ -80,7 +84,7 @@ module _ {h : ℕ} where
   small_refused = record { small = λ t. absurd (let z : ◌≡◌ {A = ℕ} 0 1 = cc in omega arith) }
 
 -- what the functions are searched with
-pub ruleset kind_laws = (size_some, size_none, index_high, index_low, range_index, range_other, rules)
+pub ruleset kind_laws = (size_some, size_none, index_any, index_high, index_low, range_index, range_other, rules)
 
 pub ruleset limit_laws = (eq-eqb, ne_eqb, rules)
 

@@ -60,35 +60,26 @@ pub fn size_of(head: u8) -> usize
     0
 }
 
+// Is a value of this kind an index.
+// Kinds stay the numbers of document 01's table: the C interface hands them out, and `shown` in specs says them.
 pub fn is_index_code(code: u8) -> bool
     ensures { result ≡ is_index code }
 {
-    if 0x15 <= code {
-        return code < 0x1c;
-    }
-    false
+    matches!(code, 0x15..=0x1b)
 }
 
 // The count that an index of a code is tested by: an enum is a field.
 fn limit_of(w: Walk, code: u8) -> u32
     ensures { result ≡ count_of w code }
 {
-    if code == 0x15 {
-        return w.protos;
+    match code {
+        0x15 => w.protos,
+        0x16 => w.handles,
+        0x17 => w.strings,
+        0x18 => w.types,
+        0x1a => w.methods,
+        _ => w.fields,
     }
-    if code == 0x16 {
-        return w.handles;
-    }
-    if code == 0x17 {
-        return w.strings;
-    }
-    if code == 0x18 {
-        return w.types;
-    }
-    if code == 0x1a {
-        return w.methods;
-    }
-    w.fields
 }
 
 // A value's head byte: 9 where it is missing, 12 where it is not allowed.
