@@ -46,6 +46,7 @@ fn minus(k: u64) -> i64
 }
 
 // The signed number of n bytes whose unsigned number is x.
+// `Sized` is no type of its own: the caller has just read the n bytes, and a struct of x and n would be made for the one call and taken apart in it.
 fn extend(x: u64, n: u32) -> i64
     requires { Sized 8 n x }
     ensures { result ≡ signed n x }
@@ -78,6 +79,7 @@ fn int_of(x: u64, n: u32) -> Value
     Value::Int(extend(x, n) as i32)
 }
 
+// `Sized` is no type of its own: the caller has just read the n bytes, and a struct of x and n would be made for the one call and taken apart in it.
 fn long_of(x: u64, n: u32) -> Value
     requires { Sized 8 n x }
     ensures { value_shown result ≡ shown (long (signed n x)) }
@@ -129,6 +131,7 @@ fn float_of(x: u64, n: u32) -> Value
     }
 }
 
+// `Sized` is no type of its own: the caller has just read the n bytes, and a struct of x and n would be made for the one call and taken apart in it.
 fn double_of(x: u64, n: u32) -> Value
     requires { Sized 8 n x }
     ensures { value_shown result ≡ shown (double (raised 8 n x)) }
@@ -147,21 +150,15 @@ fn rest_of(head: u8, x: u64) -> Value
 {
     let code = head % 32;
     let argument = head / 32;
-    if code == 0x10 {
-        return float_of(x, (argument + 1) as u32);
-    }
-    if code == 0x11 {
-        return double_of(x, (argument + 1) as u32);
-    }
-    if code == 0x1e {
-        return Value::Null;
-    }
-    if code == 0x1f {
-        return Value::Boolean(argument == 1);
-    }
-    Value::Index {
-        kind: code as u32,
-        number: x as u32,
+    match code {
+        0x10 => float_of(x, (argument + 1) as u32),
+        0x11 => double_of(x, (argument + 1) as u32),
+        0x1e => Value::Null,
+        0x1f => Value::Boolean(argument == 1),
+        _ => Value::Index {
+            kind: code as u32,
+            number: x as u32,
+        },
     }
 }
 
@@ -172,22 +169,14 @@ fn plain_of(head: u8, x: u64) -> Value
 {
     let code = head % 32;
     let size = (head / 32 + 1) as u32;
-    if code == 0x00 {
-        return byte_of(x, size);
+    match code {
+        0x00 => byte_of(x, size),
+        0x02 => short_of(x, size),
+        0x03 => Value::Char(x as u16),
+        0x04 => int_of(x, size),
+        0x06 => long_of(x, size),
+        _ => rest_of(head, x),
     }
-    if code == 0x02 {
-        return short_of(x, size);
-    }
-    if code == 0x03 {
-        return Value::Char(x as u16);
-    }
-    if code == 0x04 {
-        return int_of(x, size);
-    }
-    if code == 0x06 {
-        return long_of(x, size);
-    }
-    rest_of(head, x)
 }
 
 // A nested array behind its head byte at a place: where its body lies.
@@ -225,16 +214,15 @@ pub fn decode_at(s: &[u8], w: Walk, at: usize, left: u32) -> Result<Read<Value>,
     ensures { decoded_outcome result ≡ decoded_at s.now w left at }
 {
     let head = value_heads::head_at(s, w.item, at)?;
-    let code = head % 32;
-    if code == 0x1c {
-        return array_at(s, w, at, left);
+    match head % 32 {
+        0x1c => array_at(s, w, at, left),
+        0x1d => annotation_at(s, w, at, left),
+        _ => {
+            let Read { value, next } = value_heads::checked_number(s, w, at + 1, head)?;
+            Ok(Read {
+                value: plain_of(head, value),
+                next,
+            })
+        }
     }
-    if code == 0x1d {
-        return annotation_at(s, w, at, left);
-    }
-    let Read { value, next } = value_heads::checked_number(s, w, at + 1, head)?;
-    Ok(Read {
-        value: plain_of(head, value),
-        next,
-    })
 }

@@ -6,6 +6,7 @@ use mathlib.Core.Bool.{Bool, true, false}
 use mathlib.Core.List.{List}
 use borrow.Author.Rules.{rules}
 use borrow.Author.Tests.{eq-eqb, ne_eqb}
+use native.Mathlib.Decide.{dec_lt}
 use native.Mathlib.Omega.{arith}
 use Rattle.refusal.specs.Refusals.{nested_too_deep}
 use Rattle.refusal.specs.declared.Refusal.{Refusal}
@@ -80,20 +81,34 @@ module _ (s : List ℕ) (w : Walk) where
 
   -- ---- behind a head byte
   module _ (left h p : ℕ) {y : Outcome ℕ} where
-    pub inside_array : h % 32 ≡ 0x1c → y ≡ past_opened s w left (h % 32) p → y ≡ past_inside s w left h p
+    inside_array : h % 32 ≡ 0x1c → y ≡ past_opened s w left (h % 32) p → y ≡ past_inside s w left h p
     unfolding past_opened
     inside_array c k =
         k ∙ sym (picks _ (eq-eqb (h % 32) 0x1c c) refl) ∙ past_made _ (array_at s w left p)
         ∙ sym (ap (λ (o : Outcome (Found Tree ℕ)). o >>= past) (kind_array (array_at s w left) (annotation_at s w left) h p c))
 
-    pub inside_annotation : (h % 32 ≡ 0x1c → ⊥) → h % 32 ≡ 0x1d → y ≡ past_opened s w left (h % 32) p → y ≡ past_inside s w left h p
+    inside_annotation : (h % 32 ≡ 0x1c → ⊥) → h % 32 ≡ 0x1d → y ≡ past_opened s w left (h % 32) p → y ≡ past_inside s w left h p
     unfolding past_opened
     inside_annotation n c k =
         k ∙ sym (leaves _ (ne_eqb (h % 32) 0x1c n) refl) ∙ past_made _ (annotation_at s w left p)
         ∙ sym (ap (λ (o : Outcome (Found Tree ℕ)). o >>= past) (kind_annotation (array_at s w left) (annotation_at s w left) h p n c))
 
-    pub inside_plain : (h % 32 ≡ 0x1c → ⊥) → (h % 32 ≡ 0x1d → ⊥) → y ≡ past_plain s w h p → y ≡ past_inside s w left h p
+    inside_plain : (h % 32 ≡ 0x1c → ⊥) → (h % 32 ≡ 0x1d → ⊥) → y ≡ past_plain s w h p → y ≡ past_inside s w left h p
     inside_plain n m k = k ∙ sym (ap (λ (o : Outcome (Found Tree ℕ)). o >>= past) (kind_plain (array_at s w left) (annotation_at s w left) h p n m))
+
+    -- both codes are one arm, which is a test of a range
+    pub inside_opened : 0x1c ≤ h % 32 → h % 32 < 0x1e → y ≡ past_opened s w left (h % 32) p → y ≡ past_inside s w left h p
+    inside_opened l m k = go (dec_lt (h % 32) 0x1d)
+      where
+        go : Dec (h % 32 < 0x1d) → y ≡ past_inside s w left h p
+        go (yes d) = inside_array (omega arith) k
+        go (no d) = inside_annotation (λ c. omega arith) (omega arith) k
+
+    pub inside_below : h % 32 < 0x1c → y ≡ past_plain s w h p → y ≡ past_inside s w left h p
+    inside_below l k = inside_plain (λ c. omega arith) (λ c. omega arith) k
+
+    pub inside_above : 0x1e ≤ h % 32 → y ≡ past_plain s w h p → y ≡ past_inside s w left h p
+    inside_above l k = inside_plain (λ c. omega arith) (λ c. omega arith) k
 
   -- ---- a body that may not be opened
   pub body_deep : (named : Bool) (left p : ℕ) {r : Refusal} → left ≤ 0 → r ≡ nested_too_deep w.item → refused r ≡ past_body s w named left p
@@ -212,7 +227,7 @@ module _ {s : List ℕ} {w : Walk} {named : Bool} {left from count turn p : ℕ}
       pub inside_stop : {r : Refusal} → refused r ≡ past_inside s w left b (at + 1) → refused r ≡ past_values s w named left count from
       inside_stop k = turn_off (value_inside s w left at g k)
 
-pub ruleset cycle_laws = (after_head, array_by, annotation_by, opened_array, opened_annotation, inside_array, inside_annotation, inside_plain, body_deep, front_refused, size_refused, size_got, values_first, values_done, name_stop, head_stop, inside_turn, inside_stop, handed_on, rules)
+pub ruleset cycle_laws = (after_head, array_by, annotation_by, opened_array, opened_annotation, inside_opened, inside_below, inside_above, body_deep, front_refused, size_refused, size_got, values_first, values_done, name_stop, head_stop, inside_turn, inside_stop, handed_on, rules)
 
 -- what a value by itself is searched with
-pub ruleset value_laws = (after_head, value_refused, value_inside, inside_array, inside_annotation, inside_plain, handed_on, rules)
+pub ruleset value_laws = (after_head, value_refused, value_inside, inside_opened, inside_below, inside_above, handed_on, rules)

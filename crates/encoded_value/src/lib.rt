@@ -57,10 +57,10 @@ fn index_past(s: &[u8], item: usize, named: bool, count: u32, at: usize) -> Resu
 fn opened_past(s: &[u8], w: Walk, code: u8, at: usize, left: u32) -> Result<usize, Refusal>
     ensures { step_outcome result ≡ past_opened s.now w left code at }
 {
-    if code == 0x1c {
-        return array_body(s, w, at, left);
+    match code {
+        0x1c => array_body(s, w, at, left),
+        _ => annotation_body(s, w, at, left),
     }
-    annotation_body(s, w, at, left)
 }
 
 // What stands behind a head byte: the body that it opens, or its bytes. The loop over values is the one caller, and has this compiled in: most values open no body.
@@ -69,13 +69,10 @@ fn inside_past(s: &[u8], w: Walk, head: u8, at: usize, left: u32) -> Result<usiz
     ensures { step_outcome result ≡ past_inside s.now w left head at }
 {
     let code = head % 32;
-    if code == 0x1c {
-        return opened_past(s, w, code, at, left);
+    match code {
+        0x1c | 0x1d => opened_past(s, w, code, at, left),
+        _ => plain_past(s, w, at, head),
     }
-    if code == 0x1d {
-        return opened_past(s, w, code, at, left);
-    }
-    plain_past(s, w, at, head)
 }
 
 // The values of a body, each with its name in front where the body is an annotation.
@@ -118,13 +115,10 @@ pub fn value(s: &[u8], w: Walk, at: usize, left: u32) -> Result<usize, Refusal>
 {
     let head = value_heads::head_at(s, w.item, at)?;
     let code = head % 32;
-    if code == 0x1c {
-        return opened_past(s, w, code, at + 1, left);
+    match code {
+        0x1c | 0x1d => opened_past(s, w, code, at + 1, left),
+        _ => plain_past(s, w, at + 1, head),
     }
-    if code == 0x1d {
-        return opened_past(s, w, code, at + 1, left);
-    }
-    plain_past(s, w, at + 1, head)
 }
 
 // An array's body: its size, then its values.

@@ -4,14 +4,8 @@ use Rattle.decoded_value.proofs.decode_at.Goals as goal
 pub array_at-requires : goal.array_at-requires
 array_at-requires c = search laws
 
-pub returns-then-code-eq28 : goal.returns-then-code-eq28
-returns-then-code-eq28 c = search laws
-
 pub annotation_at-requires : goal.annotation_at-requires
 annotation_at-requires c = search laws
-
-pub returns-then-code-eq29 : goal.returns-then-code-eq29
-returns-then-code-eq29 c = search laws
 
 pub overflow_add-at : goal.overflow_add-at
 overflow_add-at c = search laws
@@ -22,8 +16,14 @@ plain_of-requires c = search laws
 pub returns-in_err-head : goal.returns-in_err-head
 returns-in_err-head c = search laws
 
-pub returns-in_err-value : goal.returns-in_err-value
-returns-in_err-value c = search laws
+pub returns-in_err-value-in_default : goal.returns-in_err-value-in_default
+returns-in_err-value-in_default c = search laws
 
-pub returns : goal.returns
-returns c = search laws
+pub returns-in-28 : goal.returns-in-28
+returns-in-28 c = search laws
+
+pub returns-in-29 : goal.returns-in-29
+returns-in-29 c = search laws
+
+pub returns-in_ok-value-in_default : goal.returns-in_ok-value-in_default
+returns-in_ok-value-in_default c = search laws

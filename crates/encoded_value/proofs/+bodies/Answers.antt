@@ -11,20 +11,17 @@ array_body-returns t c = search laws
 pub body_past-returns-then-left-le0 : goal.body_past-returns-then-left-le0
 body_past-returns-then-left-le0 t c = search laws
 
-pub inside_past-returns-then-code-eq28 : goal.inside_past-returns-then-code-eq28
-inside_past-returns-then-code-eq28 t c = search laws
+pub inside_past-returns-in-28 : goal.inside_past-returns-in-28
+inside_past-returns-in-28 t c = search laws
 
-pub inside_past-returns-then-code-eq29 : goal.inside_past-returns-then-code-eq29
-inside_past-returns-then-code-eq29 t c = search laws
+pub inside_past-returns-in_default : goal.inside_past-returns-in_default
+inside_past-returns-in_default t c = search laws
 
-pub inside_past-returns : goal.inside_past-returns
-inside_past-returns t c = search laws
+pub opened_past-returns-in-28 : goal.opened_past-returns-in-28
+opened_past-returns-in-28 t c = search laws
 
-pub opened_past-returns-then-code-eq28 : goal.opened_past-returns-then-code-eq28
-opened_past-returns-then-code-eq28 t c = search laws
-
-pub opened_past-returns : goal.opened_past-returns
-opened_past-returns t c = search laws
+pub opened_past-returns-in_default : goal.opened_past-returns-in_default
+opened_past-returns-in_default t c = search laws
 
 pub values_past-overflow_add-at : goal.values_past-overflow_add-at
 values_past-overflow_add-at t c = search laws
