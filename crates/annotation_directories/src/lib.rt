@@ -138,42 +138,37 @@ pub fn directory(s: &[u8], frame: Frame, item: usize) -> Result<DirectoryHead, R
 }
 
 // How many entries a list has: fields 0, methods 1, parameters 2.
+// A list stays a number: C and the readers' callers ask by it, and the contract answers for every number, also one that names no list.
 fn count_of(h: DirectoryHead, list: u32) -> u32
     ensures { result ≡ count_of h list }
 {
-    if list == 0 {
-        return h.fields;
+    match list {
+        0 => h.fields,
+        1 => h.methods,
+        2 => h.parameters,
+        _ => 0,
     }
-    if list == 1 {
-        return h.methods;
-    }
-    if list == 2 {
-        return h.parameters;
-    }
-    0
 }
 
 // How many entries stand before a list's.
 fn before_of(h: DirectoryHead, list: u32) -> usize
     ensures { result ≡ before_of h list }
 {
-    if list == 0 {
-        return 0;
+    match list {
+        0 => 0,
+        1 => h.fields as usize,
+        _ => h.fields as usize + h.methods as usize,
     }
-    if list == 1 {
-        return h.fields as usize;
-    }
-    h.fields as usize + h.methods as usize
 }
 
 // The count that a list's indices are tested by.
 fn limit_of(frame: Frame, list: u32) -> u32
     ensures { result ≡ limit_of frame list }
 {
-    if list == 0 {
-        return frame.fields;
+    match list {
+        0 => frame.fields,
+        _ => frame.methods,
     }
-    frame.methods
 }
 
 // Entry k of a list: fields 0, methods 1, parameters 2.

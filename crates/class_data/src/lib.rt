@@ -250,44 +250,33 @@ pub fn methods_at(s: &[u8], frame: Frame, item: usize) -> Result<Methods, Refusa
 }
 
 // How many members a list has: 0 static fields, 1 instance fields, 2 direct methods, 3 virtual methods.
+// A list stays a number: C and the readers' callers ask by it, and the contract answers for every number, also one that names no list.
 fn count_in(list: u32, c: Counts) -> u32
     ensures { result ≡ count_in list c }
 {
-    if list == 0 {
-        return c.statics;
+    match list {
+        0 => c.statics,
+        1 => c.instances,
+        2 => c.directs,
+        3 => c.virtuals,
+        _ => 0,
     }
-    if list == 1 {
-        return c.instances;
-    }
-    if list == 2 {
-        return c.directs;
-    }
-    if list == 3 {
-        return c.virtuals;
-    }
-    0
 }
 
 // The member that is kept of a list.
 fn member_in(list: u32, m: KeptMembers) -> Member
     ensures { result ≡ member_in list m }
 {
-    if list == 0 {
-        return m.statics;
-    }
-    if list == 1 {
-        return m.instances;
-    }
-    if list == 2 {
-        return m.directs;
-    }
-    if list == 3 {
-        return m.virtuals;
-    }
-    Member {
-        index: 0,
-        flags: 0,
-        code: 0,
+    match list {
+        0 => m.statics,
+        1 => m.instances,
+        2 => m.directs,
+        3 => m.virtuals,
+        _ => Member {
+            index: 0,
+            flags: 0,
+            code: 0,
+        },
     }
 }
 

@@ -101,16 +101,16 @@ fn are_handles_allowed(length: usize, size: u32, offset: u32) -> bool
 fn is_entry_allowed(version: u32, length: usize, e: MapEntry) -> bool
     ensures { result ≡ entry_allowed version length e }
 {
-    if e.kind == 7 {
-        return 38 <= version;
-    }
-    if e.kind == 8 {
-        if version < 38 {
-            return false;
+    match e.kind {
+        7 => 38 <= version,
+        8 => {
+            if version < 38 {
+                return false;
+            }
+            are_handles_allowed(length, e.size, e.offset)
         }
-        return are_handles_allowed(length, e.size, e.offset);
+        _ => true,
     }
-    true
 }
 
 // The rules of an entry after others: its offset is at least `floor`, and its code was not seen.
@@ -130,13 +130,13 @@ fn is_next_allowed(j: MapJudge, e: MapEntry, floor: u64, seen: u8) -> bool
 fn handles_of(e: MapEntry, before: Table) -> Table
     ensures { result ≡ handles_of e before }
 {
-    if e.kind == 8 {
-        return Table {
+    match e.kind {
+        8 => Table {
             count: e.size,
             offset: e.offset,
-        };
+        },
+        _ => before,
     }
-    before
 }
 
 // The entries from a place on, which all lie within the slice.

@@ -2,14 +2,14 @@ use Rattle.annotation_directories.proofs.Laws.{number_laws as laws}
 use Rattle.annotation_directories.specs.Directories.{before_of}
 use Rattle.annotation_directories.proofs.before_of.Goals as goal
 
-pub returns-then-list-eq0 : goal.returns-then-list-eq0
+pub returns-in-0 : goal.returns-in-0
 unfolding before_of
-returns-then-list-eq0 c = search laws
+returns-in-0 c = search laws
 
-pub returns-then-list-eq1 : goal.returns-then-list-eq1
+pub returns-in-1 : goal.returns-in-1
 unfolding before_of
-returns-then-list-eq1 c = search laws
+returns-in-1 c = search laws
 
-pub returns : goal.returns
+pub returns-in_default : goal.returns-in_default
 unfolding before_of
-returns c = search laws
+returns-in_default c = search laws

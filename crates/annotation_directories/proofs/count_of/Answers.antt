@@ -2,18 +2,18 @@ use Rattle.annotation_directories.proofs.Laws.{number_laws as laws}
 use Rattle.annotation_directories.specs.Directories.{count_of}
 use Rattle.annotation_directories.proofs.count_of.Goals as goal
 
-pub returns-then-list-eq0 : goal.returns-then-list-eq0
+pub returns-in-0 : goal.returns-in-0
 unfolding count_of
-returns-then-list-eq0 c = search laws depth 7
+returns-in-0 c = search laws
 
-pub returns-then-list-eq1 : goal.returns-then-list-eq1
+pub returns-in-1 : goal.returns-in-1
 unfolding count_of
-returns-then-list-eq1 c = search laws depth 7
+returns-in-1 c = search laws
 
-pub returns-then-list-eq2 : goal.returns-then-list-eq2
+pub returns-in-2 : goal.returns-in-2
 unfolding count_of
-returns-then-list-eq2 c = search laws depth 7
+returns-in-2 c = search laws
 
-pub returns : goal.returns
+pub returns-in_default : goal.returns-in_default
 unfolding count_of
-returns c = search laws depth 7
+returns-in_default c = search laws

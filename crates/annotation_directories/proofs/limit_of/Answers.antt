@@ -2,10 +2,10 @@ use Rattle.annotation_directories.proofs.Laws.{number_laws as laws}
 use Rattle.annotation_directories.specs.Directories.{limit_of}
 use Rattle.annotation_directories.proofs.limit_of.Goals as goal
 
-pub returns-then-list-eq0 : goal.returns-then-list-eq0
+pub returns-in-0 : goal.returns-in-0
 unfolding limit_of
-returns-then-list-eq0 c = search laws
+returns-in-0 c = search laws
 
-pub returns : goal.returns
+pub returns-in_default : goal.returns-in_default
 unfolding limit_of
-returns c = search laws
+returns-in_default c = search laws

@@ -2,22 +2,22 @@ use Rattle.class_data.proofs.Laws.{part_laws as laws}
 use Rattle.class_data.specs.Data.{count_in}
 use Rattle.class_data.proofs.count_in.Goals as goal
 
-pub returns-then-list-eq0 : goal.returns-then-list-eq0
+pub returns-in-0 : goal.returns-in-0
 unfolding count_in
-returns-then-list-eq0 c = search laws depth 7
+returns-in-0 c = search laws
 
-pub returns-then-list-eq1 : goal.returns-then-list-eq1
+pub returns-in-1 : goal.returns-in-1
 unfolding count_in
-returns-then-list-eq1 c = search laws depth 7
+returns-in-1 c = search laws
 
-pub returns-then-list-eq2 : goal.returns-then-list-eq2
+pub returns-in-2 : goal.returns-in-2
 unfolding count_in
-returns-then-list-eq2 c = search laws depth 7
+returns-in-2 c = search laws
 
-pub returns-then-list-eq3 : goal.returns-then-list-eq3
+pub returns-in-3 : goal.returns-in-3
 unfolding count_in
-returns-then-list-eq3 c = search laws depth 7
+returns-in-3 c = search laws
 
-pub returns : goal.returns
+pub returns-in_default : goal.returns-in_default
 unfolding count_in
-returns c = search laws depth 7
+returns-in_default c = search laws
