@@ -8,7 +8,7 @@ mod turns;
 
 pub use lines::{write_bytes, write_units, write_words};
 pub use questions::{question_of, rest_of};
-pub use turns::each;
+pub use turns::{asked_of, bytes_of, each, first, next};
 
 // A question: its reader, the words of the answer that are written, its five numbers, how many bytes it has up to their end, and how many come
 // behind them.

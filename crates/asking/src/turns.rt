@@ -7,14 +7,14 @@ use super::{Turn, questions};
 use word::Endian;
 
 // The bytes that are asked about.
-fn bytes_of(room: &[u8], t: Turn) -> &[u8]
+pub fn bytes_of(room: &[u8], t: Turn) -> &[u8]
     ensures { result.now ≡ part room.now t.start t.length }
 {
     word::bytes_at(room, t.start as usize, t.length as usize)
 }
 
 // The questions, from the one whose turn it is.
-fn asked_of(room: &[u8], t: Turn) -> &[u8]
+pub fn asked_of(room: &[u8], t: Turn) -> &[u8]
     ensures { result.now ≡ part room.now t.at (t.end - t.at) }
 {
     if t.end < t.at {
@@ -89,14 +89,14 @@ fn first_of(room: &mut [u8], cases: u32, front: u8) -> Turn
 }
 
 // How many cases there are, and the first question.
-fn first(room: &mut [u8], front: u8) -> Turn {
+pub fn first(room: &mut [u8], front: u8) -> Turn {
     let mut count = [0u8; 4];
     io::read_full(0, &mut count);
     first_of(room, word::u32_at(&count, 0, Endian::Little), front)
 }
 
 // An answer's line ends, and the next question comes: of the same case, or of a later one.
-fn next(room: &mut [u8], t: Turn, front: u8) -> Turn
+pub fn next(room: &mut [u8], t: Turn, front: u8) -> Turn
     ensures { to_go result ≤ to_go t - 1 }
 {
     io::write_all(1, b"\n");

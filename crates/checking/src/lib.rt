@@ -9,14 +9,15 @@ mod outputs;
 mod paths;
 mod reasons;
 
-pub use outputs::write_output;
+pub use outputs::{close_output, write_output};
+pub use reasons::tell_why;
 use std::env::{Env, FillError};
 use std::fs::Files;
 use std::io::Read;
 use verdict::Verdict;
 
 // One byte more than is taken, so that an input that is too long is known to be.
-const ROOM: usize = 65537;
+pub const ROOM: usize = 65537;
 
 // Room for the line of the longest path, 4,096 bytes and 6, and for the longest report, 288.
 const OUT: usize = 4390;
@@ -33,13 +34,13 @@ pub const UNWRITTEN: u8 = 3;
 
 // An input that was read: how many bytes its name has and it has. In its place, as an error, what one comes to that was not read.
 #[derive(Clone, Copy)]
-struct Input {
-    name: usize,
-    length: usize,
+pub struct Input {
+    pub name: usize,
+    pub length: usize,
 }
 
 // The worse of two.
-fn worse(a: u8, b: u8) -> u8
+pub fn worse(a: u8, b: u8) -> u8
     ensures { result ≡ max a b }
 {
     if a < b { b } else { a }
@@ -132,6 +133,7 @@ fn read_full(from: &mut impl Read, room: &mut [u8]) -> std::io::Result<usize>
     ensures { IfOk result (λ n. n ≤ length room.old) }
 {
     let mut done: usize = 0;
+    // `while`: a turn moves on by what the read gave.
     while done < room.len() {
         let n = from.read(&mut room[done..])?;
         if n == 0 {
@@ -169,7 +171,7 @@ fn read_whole(from: &mut impl Read, what: &[u8], room: &mut [u8]) -> Result<usiz
 }
 
 // Standard input: how many bytes it has.
-fn read_standard(rt: &impl std::io::Input, room: &mut [u8]) -> Result<usize, u8>
+pub fn read_standard(rt: &impl std::io::Input, room: &mut [u8]) -> Result<usize, u8>
     ensures { IfOk result (λ n. n ≤ length room.old) }
 {
     read_whole(&mut rt.reader(), b"standard input", room)
@@ -189,7 +191,7 @@ fn read_file(rt: &(impl Files + Env), i: usize, name: &[u8], room: &mut [u8]) ->
 }
 
 // The file that argument i names, and its name, into lent rooms.
-fn read_argument(
+pub fn read_argument(
     rt: &(impl Files + Env),
     i: usize,
     path: &mut [u8],
@@ -261,7 +263,7 @@ fn standard<F: Fn(&[u8], &[u8], &[u8]) -> u8>(rt: &impl std::io::Input, on_input
 }
 
 // Is the exit status asked for? An empty first argument does so: it names no file.
-fn is_asked(rt: &impl Env) -> bool {
+pub fn is_asked(rt: &impl Env) -> bool {
     let mut word = [0u8; 1];
     match rt.arg(1, &mut word) {
         Err(_) => false,
@@ -270,14 +272,14 @@ fn is_asked(rt: &impl Env) -> bool {
 }
 
 // Writes the exit status to its descriptor.
-fn tell(status: u8) {
+pub fn tell(status: u8) {
     if !io::write_all(STATUS_FILENO, &[digit_of(status)]) {
         io::write_all(STDERR_FILENO, b"exit status: it could not be written\n");
     }
 }
 
 // How many arguments there are, the program's own name with them.
-fn argument_count(rt: &impl Env) -> usize {
+pub fn argument_count(rt: &impl Env) -> usize {
     let mut word = [0u8; 1];
     for i in 0..usize::MAX {
         if let Err(FillError::NotPresent) = rt.arg(i, &mut word) {

@@ -65,7 +65,7 @@ fn late_error(rt: &impl Files) -> Option<std::io::Error> {
 }
 
 // Has all that was written arrived? Some file systems say so at the end alone.
-pub(crate) fn close_output(rt: &impl Files, status: u8) -> u8
+pub fn close_output(rt: &impl Files, status: u8) -> u8
     ensures { status ≤ result }
 {
     if status == UNWRITTEN {

@@ -38,7 +38,7 @@ pub(crate) fn front_of(room: &[u8], written: u64) -> &[u8] {
 }
 
 // A line on standard error: what failed, and why.
-pub(crate) fn tell_why(what: &[u8], error: std::io::Error) {
+pub fn tell_why(what: &[u8], error: std::io::Error) {
     let mut text = Cursor::new([0u8; 256]);
     let _ = write!(text, "{error}");
     let written = text.position();
