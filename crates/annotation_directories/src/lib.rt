@@ -138,7 +138,7 @@ pub fn directory(s: &[u8], frame: Frame, item: usize) -> Result<DirectoryHead, R
 }
 
 // How many entries a list has: fields 0, methods 1, parameters 2.
-// A list stays a number: C and the readers' callers ask by it, and the contract answers for every number, also one that names no list.
+// A list stays a number: the readers ask by it, and the contract answers for every number, also one that names no list.
 fn count_of(h: DirectoryHead, list: u32) -> u32
     ensures { result ≡ count_of h list }
 {
