@@ -78,7 +78,8 @@ def functions():
 
 def readers():
     """Every public function of `dex` is declared under its name, or the header says which function answers for it."""
-    public = set(re.findall(r'^pub use \w+::([a-z]\w*);$', text('crates/dex/src/lib.rt'), re.M))
+    handed = re.findall(r'^pub use \w+::(?:(\w+)|\{(.*?)\});$', text('crates/dex/src/lib.rt'), re.S | re.M)
+    public = {name for alone, several in handed for name in re.findall(r'\w+', alone or several) if name[0].islower()}
     instead = dict(re.findall(r'dex::(\w+) is dralovika_(\w+)', ' '.join(header.replace(' * ', ' ').split())))
     names = set(declared())
     wrong = [f'dex::{name} is not there' for name in sorted(public - names) if instead.get(name) not in names]
@@ -152,11 +153,11 @@ def kinds():
     if [name for name, number in arms if not number[0].isdigit()] != ['Index']:
         return ['the rows of values are not understood']
     heads = text('crates/value_heads/src/lib.rt')
-    first, past = one(r'fn is_index_code.*?if (\w+) <= code \{\s*return code < (\w+);', heads)
-    limits = one(r'fn limit_of(.*?)^\}', heads)
-    tables = {int(number, 0): table for number, table in re.findall(r'code == (\w+) \{\s*return w\.(\w+);', limits)}
-    fields = [number for number in range(int(first, 0), int(past, 0)) if number not in tables]
-    if one(r'^    w\.(\w+)$', limits) != 'fields' or len(fields) != 2:
+    first, last = one(r'^pub fn is_index_code[^}]*\}\n\{\s*matches!\(code, (\w+)\.\.=(\w+)\)\n\}', heads)
+    limits = one(r'^fn limit_of(.*?)^\}', heads)
+    tables = {int(number, 0): table for number, table in re.findall(r'^        (0x\w+) => w\.(\w+),$', limits, re.M)}
+    fields = [number for number in range(int(first, 0), int(last, 0) + 1) if number not in tables]
+    if one(r'^        _ => w\.(\w+),$', limits) != 'fields' or len(fields) != 2:
         return ['the codes of indices are not understood']
     code.update({table[:-1].upper(): number for number, table in tables.items()}, FIELD=fields[0], ENUM=fields[1])
     return differences('kind', enums['value_kind'], {'DRALOVIKA_KIND_' + name: number for name, number in code.items()})
@@ -178,7 +179,7 @@ def constants():
         'DRALOVIKA_VERSION': '"' + '.'.join(macros['DRALOVIKA_VERSION_' + part] for part in ('MAJOR', 'MINOR', 'PATCH')) + '"',
     }
     wrong = differences('constant', {name: macros.get(name) for name in code}, code)
-    lists = re.findall(r'list == (\d) \{\s*return c\.(\w+);', one(r'^fn count_in(.*?)^\}', text('crates/class_data/src/lib.rt')))
+    lists = re.findall(r'^        (\d) => c\.(\w+),$', one(r'^fn count_in(.*?)^\}', text('crates/class_data/src/lib.rt')), re.M)
     names = {'statics': 'STATIC_FIELDS', 'instances': 'INSTANCE_FIELDS', 'directs': 'DIRECT_METHODS', 'virtuals': 'VIRTUAL_METHODS'}
     wrong += differences('list', enums['list'], {'DRALOVIKA_LIST_' + names[field]: int(number) for number, field in lists})
     orders = re.findall(r'Endian::(\w+) => (\d),', one(r'^fn order_word(.*?)^\}', text('crates/answer_rows/src/heads.rt')))
