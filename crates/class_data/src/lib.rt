@@ -165,19 +165,12 @@ fn kept_at(s: &[u8], frame: Frame, item: usize, k: u32) -> Result<KeptData, Refu
         counts.instances,
         k,
     )?;
+    let methods = methods_of(frame);
     let Two {
         first: directs,
         second: virtuals,
         next: end,
-    } = two_at(
-        s,
-        methods_of(frame),
-        item,
-        middle,
-        counts.directs,
-        counts.virtuals,
-        k,
-    )?;
+    } = two_at(s, methods, item, middle, counts.directs, counts.virtuals, k)?;
     Ok(KeptData {
         counts,
         members: KeptMembers {
