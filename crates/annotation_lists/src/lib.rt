@@ -32,6 +32,7 @@ fn is_offset(start: usize, end: usize, absent: bool, four: bool, offset: usize) 
 }
 
 // The offset at a place.
+#[inline(always)]
 fn offset_at(
     s: &[u8],
     frame: Frame,
@@ -51,6 +52,7 @@ fn offset_at(
 }
 
 // All offsets from a place on, which lie within the slice: `offset_count` has just tested that, and a struct of the three would be made for that one call.
+#[inline(always)]
 fn offsets_pass(
     s: &[u8],
     frame: Frame,
@@ -71,8 +73,8 @@ fn offsets_pass(
     Ok(())
 }
 
-// How many offsets a list has: its size, its length, then its offsets. The going over a set calls this itself and not `set_count`, which has other
-// callers and would not be compiled into it.
+// How many offsets a list has: its size, its length, then its offsets. It is compiled into the going over a set, whatever its other callers are.
+#[inline(always)]
 pub fn offset_count(
     s: &[u8],
     frame: Frame,

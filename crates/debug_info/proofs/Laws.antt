@@ -3,7 +3,7 @@
 use Prim.Native.Nat.{ℕ, zero, suc, ◌+◌, ◌-◌, ◌<◌, ◌≤◌}
 use mathlib.Core.Path.{◌≡◌, refl, ap, sym, ◌∙◌}
 use mathlib.Core.Bool.{Bool, true, false, cond}
-use mathlib.Core.Option.{Option, none}
+use mathlib.Core.Option.{Option, none, some}
 use mathlib.Core.List.{List}
 use lib.ListN.{length, get_or}
 use lib.Dec.{ltb, eqb}
@@ -12,7 +12,7 @@ use borrow.Author.Tests.{lt-ltb, le-ltb}
 use native.Mathlib.Omega.{arith}
 use Rattle.std.specs.Prelude.{Some, None}
 use Rattle.std.specs.Prelude as S
-use Rattle.refusal.specs.Refusals.{not_there, runs_past}
+use Rattle.refusal.specs.Refusals.{not_there, runs_past, wrong_index}
 use Rattle.refusal.specs.declared.Refusal.{Refusal}
 use Rattle.refusal.specs.Outcome.{Outcome, answer, refused, ◌>>=◌, given}
 use Rattle.refusal.specs.Rows.{Found, past, collect}
@@ -21,7 +21,7 @@ use Rattle.refusal.proofs.Laws.{tests, calls, bind_answer, bind_refused, refused
 use Rattle.refusal.proofs.Rows.{bind_assoc, past_answer}
 use Rattle.refusal.proofs.Loops.{Ending, ending_first, ending_next, ending_stop, ending_full, ending_done}
 use Rattle.refusal.proofs.Choose.{Choosing, choosing_first, choosing_next, choosing_stop, choosing_done, chosen_by}
-use Rattle.leb128.specs.Leb.{uleb_at}
+use Rattle.leb128.specs.Leb.{uleb_at, less_one, plus_one_at}
 use Rattle.leb128.proofs.Laws.{uleb_span, plus_one_span}
 use Rattle.leb128.proofs.Exactly.{uleb_exact, plus_one_exact}
 use Rattle.debug_info.specs.Debug.{named, name_at, opcode_at, program_at, Debug, debug_at, Extent, extent_at, name_of, kept_names, zero_at, Held, body_at, kept_debug_at}
@@ -30,18 +30,58 @@ use Rattle.debug_info.specs.Answers.{name_meant}
 use Rattle.debug_info.proofs.Exactly.{program_exact, debug_exact}
 
 -- ---- a name that is a string, or none
-module _ {o : S.Option ℕ} (strings : ℕ) where
-  pub named_none : o ≡ None → named strings (name_meant o) ≡ true
-  unfolding named
-  named_none e = rw e
+pub named_none : (strings : ℕ) → named strings none ≡ true
+unfolding named
+named_none strings = refl
 
-  pub named_below : (v : ℕ) → o ≡ Some v → v < strings → named strings (name_meant o) ≡ true
-  unfolding named
-  named_below v e h = rw e (lt-ltb v strings h)
+pub named_below : (strings v : ℕ) → v < strings → named strings (some v) ≡ true
+unfolding named
+named_below strings v h = lt-ltb v strings h
 
-  pub named_past : (v : ℕ) → o ≡ Some v → strings ≤ v → named strings (name_meant o) ≡ false
-  unfolding named
-  named_past v e h = rw e (le-ltb v strings h)
+pub named_past : (strings v : ℕ) → strings ≤ v → named strings (some v) ≡ false
+unfolding named
+named_past strings v h = le-ltb v strings h
+
+-- ---- a name as it is read, by the number v that stands there: none where that is 0, or else one less
+abbrev read : Option ℕ → ℕ → Outcome (Found (Option ℕ) ℕ)
+read o q = answer (record { item = o; next = q })
+
+module _ (s : List ℕ) (strings item p : ℕ) where
+  judged : ℕ → ℕ → Outcome (Found (Option ℕ) ℕ)
+  judged v q = given (named strings (less_one v)) (wrong_index item) (read (less_one v) q)
+
+  judged_none : (k q : ℕ) → k ≡ 0 → read none q ≡ judged k q
+  unfolding judged less_one
+  judged_none zero q z = passes (wrong_index item) (named_none strings) refl
+  judged_none (suc k) q z = absurd (omega arith)
+
+  judged_below : (k q : ℕ) → 0 < k → k ≤ strings → read (some (k - 1)) q ≡ judged k q
+  unfolding judged less_one
+  judged_below zero q h l = absurd (omega arith)
+  judged_below (suc k) q h l = let back : suc k - 1 ≡ k = omega arith in passes (wrong_index item) (named_below strings k (omega arith)) (rw back)
+
+  judged_past : (k q : ℕ) {r : Refusal} → r ≡ wrong_index item → strings < k → refused r ≡ judged k q
+  unfolding judged less_one
+  judged_past zero q made h = absurd (omega arith)
+  judged_past (suc k) q made h = fails (read (some k) q) made (named_past strings k (omega arith))
+
+  module _ {v q : ℕ} (e : answer (record { item = v; next = q }) ≡ uleb_at s item p) where
+    name_read : name_at s strings item p ≡ judged v q
+    unfolding name_at plus_one_at judged
+    name_read = bind_answer _ (bind_answer _ (sym e))
+
+    pub name_none : v ≡ 0 → read none q ≡ name_at s strings item p
+    name_none z = judged_none v q z ∙ sym name_read
+
+    pub name_below : 0 < v → v ≤ strings → read (some (v - 1)) q ≡ name_at s strings item p
+    name_below h l = judged_below v q h l ∙ sym name_read
+
+    pub name_past : {r : Refusal} → r ≡ wrong_index item → strings < v → refused r ≡ name_at s strings item p
+    name_past made h = judged_past v q made h ∙ sym name_read
+
+  pub name_unread : {r : Refusal} → refused r ≡ uleb_at s item p → refused r ≡ name_at s strings item p
+  unfolding name_at plus_one_at
+  name_unread e = sym (bind_refused _ (bind_refused _ (sym e)))
 
 -- ---- the loop of `names_at` at its head
 pub record Names (s : List ℕ) (strings item from count k p i : ℕ) (kept : S.Option ℕ) : Type 0 where
@@ -182,7 +222,7 @@ debug_lies s strings item d e =
         omega arith
 
 -- ---- what this crate's functions are searched with
-pub ruleset found_laws = (named_none, named_below, named_past, calls, tests, rules)
+pub ruleset found_laws = (name_none, name_below, name_past, name_unread, rules)
 
 pub ruleset names_laws = (names_first, names_next, names_stop, names_done, rules)
 

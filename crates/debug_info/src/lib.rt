@@ -27,17 +27,25 @@ pub struct DebugOutline {
     pub length: usize,
 }
 
-// A name where it stands: 11 where it is a string that is not there.
+// A name where it stands, a plus-one number: 11 where it is a string that is not there. The number is looked at before it is made an Option: that of `uleb_p1`,
+// taken apart at once, cost a third more time on a long list of names (docs/LOOK-BACK.md).
 fn name_found(s: &[u8], strings: u32, item: usize, at: usize) -> Result<Read<Option<u32>>, Refusal>
     ensures { name_found_outcome result ≡ name_at s.now strings item at }
 {
-    let name = leb128::uleb_p1(s, at, item)?;
-    if let Some(v) = name.value
-        && strings <= v
-    {
-        return Err(refusal::wrong_index(item));
+    let n = leb128::uleb(s, at, item)?;
+    if n.value <= 0 {
+        return Ok(Read {
+            value: None,
+            next: n.next,
+        });
     }
-    Ok(name)
+    if n.value <= strings {
+        return Ok(Read {
+            value: Some(n.value - 1),
+            next: n.next,
+        });
+    }
+    Err(refusal::wrong_index(item))
 }
 
 // All names, of which number k is kept.
