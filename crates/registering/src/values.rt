@@ -38,7 +38,7 @@ pub struct Fact {
 #[derive(Clone, Copy)]
 enum Step {
     Named(u32),
-    Nth(u64),
+    Nth(u32),
 }
 
 // A step, and where its value is.
@@ -54,6 +54,12 @@ struct Open {
     step: Step,
     left: u32,
 }
+
+// Where no body is open: all zeros, so that the whole stack is cleared at once for each value.
+const SHUT: Open = Open {
+    step: Step::Named(0),
+    left: 0,
+};
 
 // A body that a value opens: how many values are in it, and whether each has a name.
 #[derive(Clone, Copy)]
@@ -119,7 +125,7 @@ fn put_step(
         }
         Step::Nth(n) => {
             out.put(rt, b"[")?;
-            out.put_number(rt, std::num::wrapping_sub_u64(n, 1))?;
+            out.put_number(rt, std::num::wrapping_sub_u32(n, 1) as u64)?;
             out.put(rt, b"]")
         }
     }
@@ -365,7 +371,7 @@ fn show(
 fn enter(s: &[u8], w: Walk, step: Step, at: usize) -> Result<Entered, Stopped> {
     match step {
         Step::Nth(n) => Ok(Entered {
-            step: Step::Nth(std::num::wrapping_add_u64(n, 1)),
+            step: Step::Nth(std::num::wrapping_add_u32(n, 1)),
             at,
         }),
         Step::Named(_) => {
@@ -448,7 +454,8 @@ pub fn write_values(
     from: usize,
     out: &mut Output,
 ) -> Result<usize, Stopped> {
-    let mut open = [opened(Body { named, count }); STEPS];
+    let mut open = [SHUT; STEPS];
+    open[0] = opened(Body { named, count });
     write_open(rt, f, header, w, fact, &mut open, from, out)
 }
 
