@@ -94,25 +94,23 @@ fn u32_by_bytes(slice: &[u8], at: usize, order: Endian) -> u32
     )
 }
 
-// The two bytes at a place as one number. Most files are little-endian and most words lie inside: there one test serves both bytes and they are
-// one load. The order is asked for before any byte is read, or the compiler does not join the reads.
+// The two bytes at a place as one number. Most words lie inside: there one test serves both bytes and they are one load. The order is asked for
+// before any byte is read, or the compiler does not join the reads.
 pub fn u16_at(slice: &[u8], at: usize, order: Endian) -> u16
     ensures { result ≡ u16_at order slice.now at }
 {
-    match order {
-        Endian::Big => u16_by_bytes(slice, at, order),
-        Endian::Little => {
-            if 2 <= slice.len() {
-                if at <= slice.len() - 2 {
-                    return u16::from_le_bytes([slice[at], slice[at + 1]]);
-                }
-            }
-            u16_by_bytes(slice, at, order)
+    if 2 <= slice.len() {
+        if at <= slice.len() - 2 {
+            return match order {
+                Endian::Little => u16::from_le_bytes([slice[at], slice[at + 1]]),
+                Endian::Big => u16::from_be_bytes([slice[at], slice[at + 1]]),
+            };
         }
     }
+    u16_by_bytes(slice, at, order)
 }
 
-// The four bytes at a place as one number, as two are.
+// The four bytes at a place as one number. Here one test serves in the low order alone, which most files have.
 pub fn u32_at(slice: &[u8], at: usize, order: Endian) -> u32
     ensures { result ≡ u32_at order slice.now at }
 {
